@@ -1,0 +1,156 @@
+-- How large what the definitions give can be.
+use Prim.Native.Nat.{ℕ, _+_, _*_, _-_, _/_, _≤_, _<_, min, max}
+use mathlib.Core.Path.{_≡_}
+use mathlib.Core.Bool.{Bool, true, false, cond, not, _&&_, _||_}
+use native.Mathlib.Omega.{arith}
+use native.Mathlib.Nat.{mul-le-mul, div-le-of-le-mul}
+use lib.Dec.{leb}
+use lib.IntN.{pos, _-ℤ_, _*ℤ_, natAbs}
+use lib.Signed.{quotZ}
+use borrow.Author.Tests.{leb-false}
+use Rattle.tariff.specs.Amounts.{nothing, size, opposite, gap, percent, below, sizeMills, noMoney, charged, credited}
+use Rattle.tariff.specs.Months.{sameMonth, january, march, november, december, winter, minimum, maximum, withdrawalMaximum}
+use Rattle.tariff.specs.Terms.{termsInRange}
+use Rattle.tariff.specs.Delivery.{retained, daysOfInjection, shareOf}
+use Rattle.tariff.specs.Steps.{stepOf, firstStep, measured, crosses, isOver, isUnder}
+use Rattle.tariff.specs.Closing.{excessOver, carryOf, forfeitOf, withdrawalLimit, cashOf, breaksV7, breaksV8, maskOf}
+use Rattle.tariff.specs.Bill.{pricesInRange, cashInCharge, cashOutCredit, atInventoryCost, billOf}
+use Rattle.tariff.specs.declared.amounts.Dth.{Dth}
+use Rattle.tariff.specs.declared.amounts.Mills.{Mills}
+use Rattle.tariff.specs.declared.amounts.Quantity.{Quantity}
+use Rattle.tariff.specs.declared.amounts.Units.{Units}
+use Rattle.tariff.specs.declared.bill.Prices.{Prices}
+use Rattle.tariff.specs.declared.bill.Totals.{Totals}
+use Rattle.tariff.specs.declared.months.Month.{Month}
+use Rattle.tariff.specs.declared.steps.Step.{Step}
+use Rattle.tariff.specs.declared.terms.Terms.{Terms}
+use Rattle.tariff.proofs.Bools.{either, or-left, or-right}
+use Rattle.tariff.proofs.Percentages.{minimum-le, maximum-le, withdrawal-maximum-le}
+use Rattle.tariff.proofs.Ranges.{PriceBounds, price-bounds, TermsBounds, terms-bounds}
+use Rattle.tariff.proofs.Signed.{size-naturals, size-product, size-quotient-is}
+use Rattle.tariff.proofs.Sizes.{excess-le, percent-le, size-opposite, size-gap, size-nothing, size-no-money, size-charged, size-credited}
+
+-- a choice between two numbers that are both at most n
+pub choice-le : (n : ℕ) (t : Bool) (x y : ℕ) → x ≤ n → y ≤ n → cond t x y ≤ n
+choice-le n true x y h k = h
+choice-le n false x y h k = k
+
+-- ---- deliveries
+
+pub days-le : (m : Month) → daysOfInjection m ≤ 30
+unfolding daysOfInjection
+days-le m = choice-le 30 (sameMonth m november || sameMonth m december) 30 25 (omega arith) (omega arith)
+
+pub share-le : (bank : Units) (bcq : Dth) (backCast : Quantity) (mdq : Dth) → shareOf bank bcq backCast mdq ≤ 100
+unfolding shareOf
+share-le bank bcq backCast mdq =
+    choice-le 100 (not (below bank (percent 30 bcq)) || leb (100 * mdq .0) (backCast .0)) 100 _ (omega arith)
+    (choice-le 100 (not (below bank (percent 20 bcq))) 80 _ (omega arith)
+    (choice-le 100 (not (below bank (percent 10 bcq))) 65 50 (omega arith) (omega arith)))
+
+pub retained-le : (retainage : ℕ) (delivered backCast : Quantity) → delivered .0 ≤ 1000000000 → backCast .0 ≤ 1000000000 → size (retained retainage delivered backCast) ≤ 1000000000
+unfolding retained size
+retained-le retainage delivered backCast h l =
+    let difference = pos (delivered .0) -ℤ pos (backCast .0) in
+    let product = difference *ℤ pos (10000 - retainage) in
+    let far : natAbs difference ≤ 1000000000 = omega (arith, size-naturals (delivered .0) (backCast .0)) in
+    let keep : 10000 - retainage ≤ 10000 = omega arith in
+    omega (arith, size-quotient-is product 10000, size-product difference (pos (10000 - retainage)), mul-le-mul far keep)
+
+-- ---- steps
+
+pub step-le : (mdq : Dth) → mdq .0 ≤ 300000 → stepOf mdq ≤ 100
+unfolding stepOf
+step-le mdq h = omega arith
+
+module _ (s : Step) (m : Dth) where
+  pub pending-within : s .k ≤ 100 → 1 ≤ s .k → m .0 ≤ 300000 → (1 ≤ measured s m .pending) × (measured s m .pending ≤ 100)
+  unfolding measured
+  pending-within h l n =
+      either (λ x. (1 ≤ x) × (x ≤ 100)) (crosses s m) (max 1 (stepOf m)) (s .k)
+      (λ _. let b = step-le m n in omega arith)
+      (λ _. omega arith)
+
+  -- a run that would be the third is a crossing, and starts anew
+  pub over-within : s .over ≤ 2 → measured s m .over ≤ 2
+  unfolding measured crosses
+  over-within h =
+      either (λ x. x ≤ 2) (crosses s m) 0 (cond (isOver s m) (s .over + 1) 0) (λ _. omega arith)
+      (λ e. either (λ x. x ≤ 2) (isOver s m) (s .over + 1) 0
+      (λ o. let below : leb 2 (s .over) ≡ false = rw o at (or-right (leb (3000 * s .k + 500) (m .0)) (isOver s m && leb 2 (s .over)) (or-left (leb (3000 * s .k + 500) (m .0) || (isOver s m && leb 2 (s .over))) (leb (m .0 + 500) (3000 * (s .k - 1))) (or-left (leb (3000 * s .k + 500) (m .0) || (isOver s m && leb 2 (s .over)) || leb (m .0 + 500) (3000 * (s .k - 1))) (isUnder s m && leb 2 (s .under)) e))) in
+      omega (arith, leb-false 2 (s .over) below))
+      (λ _. omega arith))
+
+  pub under-within : s .under ≤ 2 → measured s m .under ≤ 2
+  unfolding measured crosses
+  under-within h =
+      either (λ x. x ≤ 2) (crosses s m) 0 (cond (isUnder s m) (s .under + 1) 0) (λ _. omega arith)
+      (λ e. either (λ x. x ≤ 2) (isUnder s m) (s .under + 1) 0
+      (λ o. let below : leb 2 (s .under) ≡ false = rw o at (or-right (leb (3000 * s .k + 500) (m .0) || (isOver s m && leb 2 (s .over)) || leb (m .0 + 500) (3000 * (s .k - 1))) (isUnder s m && leb 2 (s .under)) e) in
+      omega (arith, leb-false 2 (s .under) below))
+      (λ _. omega arith))
+
+-- ---- closings
+
+pub limit-le : (m : Month) (bcq : Dth) (carry : Quantity) → bcq .0 ≤ 30000000 → withdrawalLimit m bcq carry .0 ≤ 3060000000
+unfolding withdrawalLimit
+limit-le m bcq carry h = omega (arith, percent-le (withdrawalMaximum m) bcq 102 30000000 (withdrawal-maximum-le m) h)
+
+pub carry-le : (m : Month) (limit : Quantity) (net : Units) → carryOf m limit net .0 ≤ size net
+unfolding carryOf
+carry-le m limit net =
+    choice-le (size net) (winter m && not (sameMonth m march)) _ 0
+    (omega (arith, excess-le (opposite net) limit, size-opposite net))
+    (omega arith)
+
+pub forfeit-le : (m : Month) (bcq : Dth) (bank : Units) → forfeitOf m bcq bank .0 ≤ size bank
+unfolding forfeitOf
+forfeit-le m bcq bank =
+    choice-le (size bank) (sameMonth m january) _ _ (excess-le bank (percent 65 bcq))
+    (choice-le (size bank) (sameMonth m march) _ 0 (excess-le bank (percent 25 bcq)) (omega arith))
+
+pub cash-le : (m : Month) (excused : Bool) (bcq : Dth) (bank : Units) → bcq .0 ≤ 30000000 → size (cashOf m excused bcq bank) ≤ size bank + 3060000000
+unfolding cashOf
+cash-le m excused bcq bank h =
+    either P (breaksV7 bank) (gap bank (percent (minimum m) bcq)) (cond (breaksV8 excused bcq bank) (gap bank (percent (maximum m) bcq)) nothing)
+    (λ _. omega (arith, size-gap bank (percent (minimum m) bcq), percent-le (minimum m) bcq 102 30000000 (minimum-le m) h))
+    (λ _. either P (breaksV8 excused bcq bank) (gap bank (percent (maximum m) bcq)) nothing
+    (λ _. omega (arith, size-gap bank (percent (maximum m) bcq), percent-le (maximum m) bcq 102 30000000 (maximum-le m) h))
+    (λ _. omega (arith, size-nothing)))
+  where
+    P : Units → Type 0
+    P u = size u ≤ size bank + 3060000000
+
+pub mask-le : (v1 v2 v3 v4 v5 v6 v7 v8 : Bool) → maskOf v1 v2 v3 v4 v5 v6 v7 v8 ≤ 255
+unfolding maskOf
+mask-le v1 v2 v3 v4 v5 v6 v7 v8 =
+    omega (
+      arith,
+      choice-le 1 v1 1 0 (omega arith) (omega arith),
+      choice-le 2 v2 2 0 (omega arith) (omega arith),
+      choice-le 4 v3 4 0 (omega arith) (omega arith),
+      choice-le 8 v4 8 0 (omega arith) (omega arith),
+      choice-le 16 v5 16 0 (omega arith) (omega arith),
+      choice-le 32 v6 32 0 (omega arith) (omega arith),
+      choice-le 64 v7 64 0 (omega arith) (omega arith),
+      choice-le 128 v8 128 0 (omega arith) (omega arith),
+    )
+
+-- ---- the bill
+
+-- x × y / d where x and y are bounded
+charge-le : (x y d m n r : ℕ) → x ≤ m → y ≤ n → m * n ≤ d * r → x * y / d ≤ r
+charge-le x y d m n r h k e = div-le-of-le-mul d (omega (arith, mul-le-mul h k))
+
+module _ (p : Prices) (q : Quantity) (h : pricesInRange p ≡ true) (l : q .0 ≤ 200000000000) where
+  pub cash-in-le : cashInCharge p q ≤ 440000000000000
+  unfolding cashInCharge
+  cash-in-le = let b = price-bounds p h in charge-le (q .0) (110 * max (p .inventory) (p .highest + p .pipeline)) 10000 200000000000 22000000 440000000000000 l (omega arith) (omega arith)
+
+  pub cash-out-le : cashOutCredit p q ≤ 360000000000000
+  unfolding cashOutCredit
+  cash-out-le = let b = price-bounds p h in charge-le (q .0) (90 * min (p .inventory) (p .lowest + p .pipeline)) 10000 200000000000 18000000 360000000000000 l (omega arith) (omega arith)
+
+  pub inventory-le : atInventoryCost p q ≤ 200000000000000
+  unfolding atInventoryCost
+  inventory-le = let b = price-bounds p h in charge-le (q .0) (p .inventory) 100 200000000000 100000 200000000000000 l (omega arith) (omega arith)

@@ -1,0 +1,27 @@
+-- No percentage of a month is above 102.
+use Prim.Native.Nat.{ℕ, _≤_}
+use mathlib.Core.Path.{_≡_}
+use lib.ListN.{getD}
+use Rattle.tariff.specs.Months.{gasMonth, minimum, maximum, mmbq, withdrawalMaximum, withdrawalMinimum}
+use Rattle.tariff.specs.declared.months.Month.{Month}
+use Rattle.tariff.proofs.Tables.{entry-le}
+
+pub minimum-le : (m : Month) → minimum m ≤ 102
+unfolding minimum
+minimum-le m = search entry-le
+
+pub maximum-le : (m : Month) → maximum m ≤ 102
+unfolding maximum
+maximum-le m = search entry-le
+
+pub mmbq-le : (m : Month) → mmbq m ≤ 102
+unfolding mmbq
+mmbq-le m = search entry-le
+
+pub withdrawal-maximum-le : (m : Month) → withdrawalMaximum m ≤ 102
+unfolding withdrawalMaximum
+withdrawal-maximum-le m = search entry-le
+
+pub withdrawal-minimum-le : (m : Month) → withdrawalMinimum m ≤ 102
+unfolding withdrawalMinimum
+withdrawal-minimum-le m = search entry-le

@@ -1,0 +1,10 @@
+pub mod Amounts
+pub mod Months
+pub mod Dates
+pub mod Terms
+pub mod Enrol
+pub mod Delivery
+pub mod Limits
+pub mod Steps
+pub mod Closing
+pub mod Bill
