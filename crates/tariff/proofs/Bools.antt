@@ -1,6 +1,6 @@
 -- What a passed test tells of its parts, and laws of choices.
 use Prim.Native.Nat.{ℕ, _≤_, _<_}
-use mathlib.Core.Path.{_≡_, refl, sym, subst}
+use mathlib.Core.Path.{_≡_, refl, sym, _∙_, subst}
 use mathlib.Core.Bool.{Bool, true, false, cond, _&&_, _||_}
 use lib.Dec.{T}
 
@@ -11,6 +11,11 @@ and-left false b h = h
 pub and-right : (a b : Bool) → a && b ≡ true → b ≡ true
 and-right true b h = h
 and-right false b h = absurd (subst T (sym h) tt)
+
+-- what fails where only the second holds
+pub and-fails : (a b : Bool) → a && b ≡ false → b ≡ true → a ≡ false
+and-fails true b h e = sym e ∙ h
+and-fails false b h e = refl
 
 pub or-left : (a b : Bool) → a || b ≡ false → a ≡ false
 or-left true b h = h

@@ -10,7 +10,7 @@ use borrow.Author.Tests.{eqb-true, eqb-false, ne-eqb, ltb-true}
 use Rattle.tariff.specs.Dates.{leap, divides, lengths, monthLength, total}
 use Rattle.tariff.specs.declared.months.Month.{Month}
 use Rattle.tariff.proofs.Tables.{allBelow, at-each, each, entry-le}
-use Rattle.tariff.proofs.Bounds.{choice-le}
+use Rattle.tariff.proofs.Results.{choice-le}
 
 -- the lengths of the months, by whether the year is a leap year
 abbrev pub months : Bool → List ℕ

@@ -2,7 +2,8 @@ pub mod Bools
 pub mod Signed
 pub mod Sizes
 pub mod Tables
-pub mod Bounds
+pub mod Results
 pub mod Calendar
+pub mod NextDays
 pub mod Ranges
 pub mod Percentages

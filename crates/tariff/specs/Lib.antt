@@ -8,3 +8,6 @@ pub mod Limits
 pub mod Steps
 pub mod Closing
 pub mod Bill
+pub mod Bounds
+pub mod Calendar
+pub mod MarkedCases

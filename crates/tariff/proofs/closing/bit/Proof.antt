@@ -1,6 +1,6 @@
 use borrow.Author.Needs.{needs}
 use native.Mathlib.Omega.{arith}
-use Rattle.tariff.proofs.Bounds.{choice-le}
+use Rattle.tariff.proofs.Results.{choice-le}
 use Rattle.tariff.proofs.closing.bit.Statement.{statement}
 use Rattle.tariff.proofs.closing.bit.Tie as tie
 

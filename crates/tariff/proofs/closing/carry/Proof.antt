@@ -1,6 +1,6 @@
 use borrow.Author.Needs.{needs}
 use mathlib.Core.Path.{refl}
-use Rattle.tariff.proofs.Bounds.{carry-le}
+use Rattle.tariff.proofs.Results.{carry-le}
 use Rattle.tariff.specs.Closing.{carryOf}
 use Rattle.tariff.specs.Months.{march}
 use Rattle.tariff.proofs.closing.carry.Statement.{statement}

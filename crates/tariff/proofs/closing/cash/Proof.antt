@@ -1,7 +1,7 @@
 use borrow.Author.Needs.{needs}
 use mathlib.Core.Path.{_∙_, _≡_, sym}
 use mathlib.Core.Bool.{false, true}
-use Rattle.tariff.proofs.Bounds.{cash-le}
+use Rattle.tariff.proofs.Results.{cash-le}
 use Rattle.tariff.specs.Closing.{breaksV7, breaksV8, cashOf}
 use Rattle.tariff.proofs.closing.cash.Statement.{statement}
 use Rattle.tariff.proofs.closing.cash.Tie as tie

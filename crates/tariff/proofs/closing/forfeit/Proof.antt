@@ -1,6 +1,6 @@
 use borrow.Author.Needs.{needs}
 use mathlib.Core.Path.{refl}
-use Rattle.tariff.proofs.Bounds.{forfeit-le}
+use Rattle.tariff.proofs.Results.{forfeit-le}
 use Rattle.tariff.specs.Closing.{forfeitOf}
 use Rattle.tariff.specs.Months.{january, march}
 use Rattle.tariff.proofs.closing.forfeit.Statement.{statement}

@@ -1,7 +1,7 @@
 use borrow.Author.Needs.{needs}
 use native.Mathlib.Omega.{arith}
 use mathlib.Core.Path.{refl}
-use Rattle.tariff.proofs.Bounds.{mask-le}
+use Rattle.tariff.proofs.Results.{mask-le}
 use Rattle.tariff.specs.Closing.{maskOf}
 use Rattle.tariff.proofs.closing.mask.Statement.{statement}
 use Rattle.tariff.proofs.closing.mask.Tie as tie

@@ -2,7 +2,7 @@ use borrow.Author.Needs.{needs}
 use native.Mathlib.Omega.{arith}
 use mathlib.Core.Path.{_≡_, refl}
 use Prim.Native.Nat.{_-_, max}
-use Rattle.tariff.proofs.Bounds.{limit-le}
+use Rattle.tariff.proofs.Results.{limit-le}
 use Rattle.tariff.specs.Amounts.{percent}
 use Rattle.tariff.specs.Closing.{withdrawalLimit}
 use Rattle.tariff.specs.Months.{withdrawalMaximum}

@@ -1,6 +1,6 @@
 use borrow.Author.Needs.{needs}
 use mathlib.Core.Path.{refl}
-use Rattle.tariff.proofs.Bounds.{days-le}
+use Rattle.tariff.proofs.Results.{days-le}
 use Rattle.tariff.specs.Delivery.{daysOfInjection}
 use Rattle.tariff.specs.Months.{december, november}
 use Rattle.tariff.proofs.delivery.days_of_injection.Statement.{statement}

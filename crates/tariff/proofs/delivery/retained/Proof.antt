@@ -3,7 +3,7 @@ use native.Mathlib.Omega.{arith}
 use mathlib.Core.Path.{refl}
 use Prim.Native.Nat.{_-_}
 use lib.IntN.{pos}
-use Rattle.tariff.proofs.Bounds.{retained-le}
+use Rattle.tariff.proofs.Results.{retained-le}
 use Rattle.tariff.proofs.Signed.{difference-fits, difference-read, quotient-fits, quotient-read, read-nat, scaled-fits-in, scaled-read}
 use Rattle.tariff.specs.Delivery.{retained}
 use Rattle.tariff.proofs.delivery.retained.Statement.{statement}

@@ -1,6 +1,6 @@
 use borrow.Author.Needs.{needs}
 use mathlib.Core.Path.{refl}
-use Rattle.tariff.proofs.Bounds.{share-le}
+use Rattle.tariff.proofs.Results.{share-le}
 use Rattle.tariff.specs.Delivery.{shareOf}
 use Rattle.tariff.proofs.delivery.share_of.Statement.{statement}
 use Rattle.tariff.proofs.delivery.share_of.Tie as tie

@@ -1,6 +1,6 @@
 use borrow.Author.Needs.{needs}
 use mathlib.Core.Path.{refl}
-use Rattle.tariff.proofs.Bounds.{over-within, pending-within, under-within}
+use Rattle.tariff.proofs.Results.{over-within, pending-within, under-within}
 use Rattle.tariff.specs.Steps.{measured}
 use Rattle.tariff.proofs.steps.Step.measured.Statement.{statement}
 use Rattle.tariff.proofs.steps.Step.measured.Tie as tie

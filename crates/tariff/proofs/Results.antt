@@ -10,11 +10,12 @@ use lib.Signed.{quotZ}
 use borrow.Author.Tests.{leb-false}
 use Rattle.tariff.specs.Amounts.{nothing, size, opposite, gap, percent, below, sizeMills, noMoney, charged, credited}
 use Rattle.tariff.specs.Months.{sameMonth, january, march, november, december, winter, minimum, maximum, withdrawalMaximum}
-use Rattle.tariff.specs.Terms.{termsInRange}
+use Rattle.tariff.specs.Terms.{termsInRange, mddqOf, capacityOf}
 use Rattle.tariff.specs.Delivery.{retained, daysOfInjection, shareOf}
 use Rattle.tariff.specs.Steps.{stepOf, firstStep, measured, crosses, isOver, isUnder}
 use Rattle.tariff.specs.Closing.{excessOver, carryOf, forfeitOf, withdrawalLimit, cashOf, breaksV7, breaksV8, maskOf}
 use Rattle.tariff.specs.Bill.{pricesInRange, cashInCharge, cashOutCredit, atInventoryCost, billOf}
+use Rattle.tariff.specs.Bounds.{Bounds}
 use Rattle.tariff.specs.declared.amounts.Dth.{Dth}
 use Rattle.tariff.specs.declared.amounts.Mills.{Mills}
 use Rattle.tariff.specs.declared.amounts.Quantity.{Quantity}
@@ -26,7 +27,7 @@ use Rattle.tariff.specs.declared.steps.Step.{Step}
 use Rattle.tariff.specs.declared.terms.Terms.{Terms}
 use Rattle.tariff.proofs.Bools.{either, or-left, or-right}
 use Rattle.tariff.proofs.Percentages.{minimum-le, maximum-le, withdrawal-maximum-le}
-use Rattle.tariff.proofs.Ranges.{PriceBounds, price-bounds, TermsBounds, terms-bounds}
+use Rattle.tariff.proofs.Ranges.{PriceBounds, price-bounds, TermsBounds, terms-bounds, mddq-le, bcq-le}
 use Rattle.tariff.proofs.Signed.{size-naturals, size-product, size-quotient-is}
 use Rattle.tariff.proofs.Sizes.{excess-le, percent-le, size-opposite, size-gap, size-nothing, size-no-money, size-charged, size-credited}
 
@@ -154,3 +155,33 @@ module _ (p : Prices) (q : Quantity) (h : pricesInRange p ≡ true) (l : q .0 �
   pub inventory-le : atInventoryCost p q ≤ 200000000000000
   unfolding atInventoryCost
   inventory-le = let b = price-bounds p h in charge-le (q .0) (p .inventory) 100 200000000000 100000 200000000000000 l (omega arith) (omega arith)
+
+module _ (t : Terms) (p : Prices) (mddq : Dth) (month : Totals) (ht : termsInRange t ≡ true) (hp : pricesInRange p ≡ true) (hm : mddq .0 ≤ 300000) (hu : month .usage .0 ≤ 100000000) where
+  pub bill-le : month .«cash_ins» .0 ≤ 200000000000 → month .«cash_outs» .0 ≤ 200000000000 → month .sales .0 ≤ 200000000000 → month .purchases .0 ≤ 200000000000 → sizeMills (billOf t p mddq month) ≤ 2000000000000000
+  unfolding billOf
+  bill-le h1 h2 h3 h4 =
+      let b = terms-bounds t ht in
+      let demand = charged noMoney (t .«demand_rate» * mddq .0) in
+      let used = charged demand (t .«commodity_rate» * month .usage .0) in
+      let paidIn = charged used (cashInCharge p (month .«cash_ins»)) in
+      let paidOut = credited paidIn (cashOutCredit p (month .«cash_outs»)) in
+      let sold = charged paidOut (atInventoryCost p (month .sales)) in
+      let near : sizeMills paidIn ≤ 450030000000000 =
+      omega (arith, size-no-money, size-charged noMoney (t .«demand_rate» * mddq .0), mul-le-mul (b .rates .0) hm, size-charged demand (t .«commodity_rate» * month .usage .0), mul-le-mul (b .rates .1) hu, size-charged used (cashInCharge p (month .«cash_ins»)), cash-in-le p (month .«cash_ins») hp h1) in
+      omega (arith, near, size-credited paidIn (cashOutCredit p (month .«cash_outs»)), cash-out-le p (month .«cash_outs») hp h2, size-charged paidOut (atInventoryCost p (month .sales)), inventory-le p (month .sales) hp h3, size-credited sold (atInventoryCost p (month .purchases)), inventory-le p (month .purchases) hp h4)
+
+pub all-bounds : Bounds
+unfolding capacityOf
+all-bounds =
+    record {
+      capacity = λ t k h l. (mddq-le t k h l, bcq-le t (mddqOf t k) h (mddq-le t k h l));
+      delivery = retained-le;
+      step = λ s m h l n. pending-within s m l h n;
+      runs = λ s m h l. (over-within s m h, under-within s m l);
+      cash = cash-le;
+      limit = limit-le;
+      carry = carry-le;
+      forfeit = forfeit-le;
+      mask = mask-le;
+      bill = bill-le;
+    }
