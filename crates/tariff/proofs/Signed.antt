@@ -1,10 +1,11 @@
 -- Signed numbers: their sizes, and what the machine reads back of an i64.
 use Prim.Native.Nat.{ℕ, zero, suc, _+_, _*_, _-_, _/_, _≤_, _<_, _^_, max}
-use mathlib.Core.Path.{_≡_, refl, sym, subst}
+use mathlib.Core.Path.{_≡_, refl, sym, _∙_, subst}
 use mathlib.Core.Bool.{Bool, true, false, cond, _&&_}
 use native.Mathlib.Omega.{arith}
+use native.Mathlib.Numerals.{add-one}
 use native.Mathlib.Nat.{div-le-self, mul-le-mul}
-use lib.IntN.{ℤ, pos, negsuc, _+ℤ_, _-ℤ_, _*ℤ_, negℤ, natAbs, +ℤ-idl}
+use lib.IntN.{ℤ, pos, negsuc, _+ℤ_, _-ℤ_, _*ℤ_, negℤ, natAbs, sucℤ, +ℤ-idl, +ℤ-one, negℤ-negℤ}
 use lib.Signed.{mag, ltZ, leZ, nonNeg, quotZ}
 use lib.Dec.{T, ltb}
 use mir.Syntax.{w64}
@@ -150,3 +151,46 @@ module _ (d b k : ℕ) (hd : d ≤ 1000000000) (hb : b ≤ 1000000000) (hk : k �
 
   pub quotient-read : toZ w64 (ofZ w64 (quotZ ((pos d -ℤ pos b) *ℤ pos k) (pos 10000))) ≡ quotZ ((pos d -ℤ pos b) *ℤ pos k) (pos 10000)
   quotient-read = read _ (omega (arith, scaled-size, size-quotient ((pos d -ℤ pos b) *ℤ pos k) (pos 10000)))
+
+-- the opposite of a number below zero, by way of the next one up, which always has one
+module _ (z : ℤ) (f : SFits w64 z) (h : ltZ z (pos 0) ≡ true) where
+  up-is : toZ w64 (ofZ w64 z) +ℤ pos 1 ≡ negℤ (pos (mag z))
+  up-is = rw (toZ-ofZ f) (+ℤ-one z ∙ go z h)
+    where
+      less-one : (n : ℕ) → sucℤ (negsuc n) ≡ negℤ (pos n)
+      less-one zero = refl
+      less-one (suc n) = refl
+
+      go : (z : ℤ) → ltZ z (pos 0) ≡ true → sucℤ z ≡ negℤ (pos (mag z))
+      go (pos n) h = absurd (omega (arith, ltb-true n 0 h))
+      go (negsuc n) h = less-one n
+
+  small : natAbs (negℤ (pos (mag z))) < 2 ^ 63
+  small = omega (arith, size-neg (pos (mag z)), f .sfits)
+
+  pub up-fits : SFits w64 (toZ w64 (ofZ w64 z) +ℤ pos 1)
+  up-fits = rw up-is (fits (negℤ (pos (mag z))) small)
+
+  back-is : pos 0 -ℤ toZ w64 (ofZ w64 (toZ w64 (ofZ w64 z) +ℤ pos 1)) ≡ pos (mag z)
+  back-is = rw (up-is, read (negℤ (pos (mag z))) small) (+ℤ-idl (negℤ (negℤ (pos (mag z)))) ∙ negℤ-negℤ (pos (mag z)))
+
+  pub back-fits : SFits w64 (pos 0 -ℤ toZ w64 (ofZ w64 (toZ w64 (ofZ w64 z) +ℤ pos 1)))
+  back-fits = rw back-is (fits (pos (mag z)) (f .sfits))
+
+  pub back-read : toZ w64 (ofZ w64 (pos 0 -ℤ toZ w64 (ofZ w64 (toZ w64 (ofZ w64 z) +ℤ pos 1)))) ≡ pos (mag z)
+  back-read = rw back-is (read (pos (mag z)) (f .sfits))
+
+  pub back-positive : mag z + 1 ≡ positivePart (negℤ z)
+  unfolding positivePart
+  back-positive = go z h
+    where
+      go : (z : ℤ) → ltZ z (pos 0) ≡ true → mag z + 1 ≡ positivePart (negℤ z)
+      go (pos n) h = absurd (omega (arith, ltb-true n 0 h))
+      go (negsuc n) h = add-one n
+
+-- a number that is not below zero has nothing below it
+pub opposite-none : (z : ℤ) → ltZ z (pos 0) ≡ false → positivePart (negℤ z) ≡ 0
+unfolding positivePart
+opposite-none (pos zero) h = refl
+opposite-none (pos (suc n)) h = refl
+opposite-none (negsuc n) h = absurd (subst T h tt)
