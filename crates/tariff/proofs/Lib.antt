@@ -6,4 +6,5 @@ pub mod Results
 pub mod Calendar
 pub mod NextDays
 pub mod Ranges
+pub mod StepTests
 pub mod Percentages

@@ -143,21 +143,21 @@ mask-le v1 v2 v3 v4 v5 v6 v7 v8 =
 charge-le : (x y d m n r : ℕ) → x ≤ m → y ≤ n → m * n ≤ d * r → x * y / d ≤ r
 charge-le x y d m n r h k e = div-le-of-le-mul d (omega (arith, mul-le-mul h k))
 
-module _ (p : Prices) (q : Quantity) (h : pricesInRange p ≡ true) (l : q .0 ≤ 200000000000) where
-  pub cash-in-le : cashInCharge p q ≤ 440000000000000
+module _ (p : Prices) (q : Quantity) (h : pricesInRange p ≡ true) (l : q .0 ≤ 300000000000) where
+  pub cash-in-le : cashInCharge p q ≤ 660000000000000
   unfolding cashInCharge
-  cash-in-le = let b = price-bounds p h in charge-le (q .0) (110 * max (p .inventory) (p .highest + p .pipeline)) 10000 200000000000 22000000 440000000000000 l (omega arith) (omega arith)
+  cash-in-le = let b = price-bounds p h in charge-le (q .0) (110 * max (p .inventory) (p .highest + p .pipeline)) 10000 300000000000 22000000 660000000000000 l (omega arith) (omega arith)
 
-  pub cash-out-le : cashOutCredit p q ≤ 360000000000000
+  pub cash-out-le : cashOutCredit p q ≤ 540000000000000
   unfolding cashOutCredit
-  cash-out-le = let b = price-bounds p h in charge-le (q .0) (90 * min (p .inventory) (p .lowest + p .pipeline)) 10000 200000000000 18000000 360000000000000 l (omega arith) (omega arith)
+  cash-out-le = let b = price-bounds p h in charge-le (q .0) (90 * min (p .inventory) (p .lowest + p .pipeline)) 10000 300000000000 18000000 540000000000000 l (omega arith) (omega arith)
 
-  pub inventory-le : atInventoryCost p q ≤ 200000000000000
+  pub inventory-le : atInventoryCost p q ≤ 300000000000000
   unfolding atInventoryCost
-  inventory-le = let b = price-bounds p h in charge-le (q .0) (p .inventory) 100 200000000000 100000 200000000000000 l (omega arith) (omega arith)
+  inventory-le = let b = price-bounds p h in charge-le (q .0) (p .inventory) 100 300000000000 100000 300000000000000 l (omega arith) (omega arith)
 
 module _ (t : Terms) (p : Prices) (mddq : Dth) (month : Totals) (ht : termsInRange t ≡ true) (hp : pricesInRange p ≡ true) (hm : mddq .0 ≤ 300000) (hu : month .usage .0 ≤ 100000000) where
-  pub bill-le : month .«cash_ins» .0 ≤ 200000000000 → month .«cash_outs» .0 ≤ 200000000000 → month .sales .0 ≤ 200000000000 → month .purchases .0 ≤ 200000000000 → sizeMills (billOf t p mddq month) ≤ 2000000000000000
+  pub bill-le : month .«cash_ins» .0 ≤ 300000000000 → month .«cash_outs» .0 ≤ 300000000000 → month .sales .0 ≤ 300000000000 → month .purchases .0 ≤ 300000000000 → sizeMills (billOf t p mddq month) ≤ 2000000000000000
   unfolding billOf
   bill-le h1 h2 h3 h4 =
       let b = terms-bounds t ht in
@@ -166,7 +166,7 @@ module _ (t : Terms) (p : Prices) (mddq : Dth) (month : Totals) (ht : termsInRan
       let paidIn = charged used (cashInCharge p (month .«cash_ins»)) in
       let paidOut = credited paidIn (cashOutCredit p (month .«cash_outs»)) in
       let sold = charged paidOut (atInventoryCost p (month .sales)) in
-      let near : sizeMills paidIn ≤ 450030000000000 =
+      let near : sizeMills paidIn ≤ 670030000000000 =
       omega (arith, size-no-money, size-charged noMoney (t .«demand_rate» * mddq .0), mul-le-mul (b .rates .0) hm, size-charged demand (t .«commodity_rate» * month .usage .0), mul-le-mul (b .rates .1) hu, size-charged used (cashInCharge p (month .«cash_ins»)), cash-in-le p (month .«cash_ins») hp h1) in
       omega (arith, near, size-credited paidIn (cashOutCredit p (month .«cash_outs»)), cash-out-le p (month .«cash_outs») hp h2, size-charged paidOut (atInventoryCost p (month .sales)), inventory-le p (month .sales) hp h3, size-credited sold (atInventoryCost p (month .purchases)), inventory-le p (month .purchases) hp h4)
 

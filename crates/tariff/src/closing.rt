@@ -93,7 +93,7 @@ pub fn ends_excuse(m: Month, bcq: Dth, bank: Units) -> bool
 
 // max(0, a − q).
 fn excess(a: Units, q: Quantity) -> Quantity
-    requires { ⌜ (size a ≤ 200000000000) × (q .0 ≤ 100000000000) ⌝ }
+    requires { ⌜ (size a ≤ 300000000000) × (q .0 ≤ 100000000000) ⌝ }
     ensures { λ r. ⌜ r ≡ excessOver a q ⌝ }
     ensures bounded { λ r. ⌜ r .0 ≤ size a ⌝ }
 {
@@ -113,7 +113,7 @@ pub fn carry(m: Month, limit: Quantity, net: Units) -> Quantity
 
 // What the end of January or March takes of a bank.
 pub fn forfeit(m: Month, bcq: Dth, bank: Units) -> Quantity
-    requires { ⌜ (bcq .0 ≤ 30000000) × (size bank ≤ 200000000000) ⌝ }
+    requires { ⌜ (bcq .0 ≤ 30000000) × (size bank ≤ 300000000000) ⌝ }
     ensures { λ r. ⌜ r ≡ forfeitOf m bcq bank ⌝ }
     ensures bounded { λ r. ⌜ r .0 ≤ size bank ⌝ }
 {

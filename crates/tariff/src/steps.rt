@@ -39,35 +39,36 @@ impl Step {
         }
     }
 
+    // The four tests compare steps and not 3,000 × k, so that no k of a ledger handed in can overflow them.
     fn is_over(self, m: Dth) -> bool
-        requires { ⌜ self .k ≤ 100 ⌝ }
+        requires { ⌜ m .0 ≤ 300000 ⌝ }
         ensures { λ r. ⌜ r ≡ isOver self m ⌝ }
     {
-        3000 * self.k < m.0
+        self.k < (m.0 + 2999) / 3000
     }
 
     fn is_under(self, m: Dth) -> bool
-        requires { ⌜ (1 ≤ self .k) × (self .k ≤ 100) ⌝ }
+        requires { ⌜ m .0 ≤ 300000 ⌝ }
         ensures { λ r. ⌜ r ≡ isUnder self m ⌝ }
     {
-        m.0 < 3000 * (self.k - 1)
+        m.0 / 3000 + 1 < self.k
     }
 
     fn crosses(self, m: Dth) -> bool
-        requires { ⌜ (1 ≤ self .k) × (self .k ≤ 100) × (m .0 ≤ 300000) ⌝ }
+        requires { ⌜ m .0 ≤ 300000 ⌝ }
         ensures { λ r. ⌜ r ≡ crosses self m ⌝ }
     {
         let third_over = self.is_over(m) & (2 <= self.over);
         let third_under = self.is_under(m) & (2 <= self.under);
-        (3000 * self.k + 500 <= m.0) | third_over | (m.0 + 500 <= 3000 * (self.k - 1)) | third_under
+        let far_over = self.k < (m.0 + 2500) / 3000;
+        let far_under = (m.0 + 3499) / 3000 < self.k;
+        far_over | third_over | far_under | third_under
     }
 
     // What a measured MDQ makes of the step.
     pub fn measured(self, m: Dth) -> Step
-        requires { ⌜ (1 ≤ self .k) × (self .k ≤ 100) × (m .0 ≤ 300000) ⌝ }
-        requires { ⌜ (self .over ≤ 2) × (self .under ≤ 2) ⌝ }
+        requires { ⌜ (m .0 ≤ 300000) × (self .over ≤ 2) × (self .under ≤ 2) ⌝ }
         ensures { λ r. ⌜ r ≡ measured self m ⌝ }
-        ensures bounded { λ r. ⌜ (1 ≤ r .pending) × (r .pending ≤ 100) × (r .over ≤ 2) × (r .under ≤ 2) ⌝ }
     {
         let crosses = self.crosses(m);
         let pending = choose(crosses, larger(1, step_of(m)), self.k);

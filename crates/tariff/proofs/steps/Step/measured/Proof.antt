@@ -1,6 +1,4 @@
 use borrow.Author.Needs.{needs}
-use mathlib.Core.Path.{refl}
-use Rattle.tariff.proofs.Results.{over-within, pending-within, under-within}
 use Rattle.tariff.specs.Steps.{measured}
 use Rattle.tariff.proofs.steps.Step.measured.Statement.{statement}
 use Rattle.tariff.proofs.steps.Step.measured.Tie as tie
@@ -55,7 +53,6 @@ returns c = rw (
   c .before .before .before .before .before .before .before .before .before .before .step-of .ensures .0,
   c .before .before .before .before .before .before .before .before .before .before .before .crosses .ensures,
 )
-    (refl, (pending-within (c .before .before .before .before .before .before .before .before .before .before .before .before .args .self) (c .before .before .before .before .before .before .before .before .before .before .before .before .args .m) (c .before .before .before .before .before .before .before .before .before .before .before .before .pre .0 .1) (c .before .before .before .before .before .before .before .before .before .before .before .before .pre .0 .0) (c .before .before .before .before .before .before .before .before .before .before .before .before .pre .0 .2) .0, pending-within (c .before .before .before .before .before .before .before .before .before .before .before .before .args .self) (c .before .before .before .before .before .before .before .before .before .before .before .before .args .m) (c .before .before .before .before .before .before .before .before .before .before .before .before .pre .0 .1) (c .before .before .before .before .before .before .before .before .before .before .before .before .pre .0 .0) (c .before .before .before .before .before .before .before .before .before .before .before .before .pre .0 .2) .1, over-within (c .before .before .before .before .before .before .before .before .before .before .before .before .args .self) (c .before .before .before .before .before .before .before .before .before .before .before .before .args .m) (c .before .before .before .before .before .before .before .before .before .before .before .before .pre .1 .0), under-within (c .before .before .before .before .before .before .before .before .before .before .before .before .args .self) (c .before .before .before .before .before .before .before .before .before .before .before .before .args .m) (c .before .before .before .before .before .before .before .before .before .before .before .before .pre .1 .1)))
 
 pub measured-spec : {M : Type 1} → statement M
 measured-spec =
