@@ -5,6 +5,7 @@ pub mod Tables
 pub mod Results
 pub mod Calendar
 pub mod NextDays
+pub mod Laws
 pub mod Ranges
 pub mod StepTests
 pub mod Percentages

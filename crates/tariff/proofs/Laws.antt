@@ -1,0 +1,78 @@
+-- The laws of the amounts that the layers above go by: what each definition makes of the numbers.
+use Prim.Native.Nat.{ℕ, zero, suc, _+_, _≤_}
+use mathlib.Core.Path.{_≡_, refl, sym, _∙_}
+use mathlib.Core.Bool.{Bool, true}
+use native.Mathlib.Omega.{arith}
+use lib.IntN.{ℤ, pos, negsuc, _+ℤ_, _-ℤ_, negℤ, +ℤ-idl, +ℤ-idr}
+use Rattle.tariff.specs.Amounts.{nothing, amountOf, sum, more, less, opposite, positivePart, inward, outward, within, size, together, noMoney, added, withinMills, sizeMills}
+use Rattle.tariff.specs.declared.amounts.Units.{Units}
+use Rattle.tariff.specs.declared.amounts.Quantity.{Quantity}
+use Rattle.tariff.specs.declared.amounts.Mills.{Mills}
+use Rattle.tariff.proofs.Signed.{size-between, size-sum}
+
+-- ---- numbers
+
+pub nothing-value : nothing .0 ≡ pos 0
+unfolding nothing
+nothing-value = refl
+
+pub amount-value : (q : Quantity) → amountOf q .0 ≡ pos (q .0)
+unfolding amountOf
+amount-value q = refl
+
+pub sum-value : (a b : Units) → sum a b .0 ≡ a .0 +ℤ b .0
+unfolding sum
+sum-value a b = refl
+
+pub more-value : (a : Units) (q : Quantity) → more a q .0 ≡ a .0 +ℤ pos (q .0)
+unfolding more
+more-value a q = refl
+
+pub less-value : (a : Units) (q : Quantity) → less a q .0 ≡ a .0 -ℤ pos (q .0)
+unfolding less
+less-value a q = refl
+
+pub together-value : (a b : Quantity) → together a b .0 ≡ a .0 + b .0
+unfolding together
+together-value a b = refl
+
+pub no-money-value : noMoney .0 ≡ pos 0
+unfolding noMoney
+no-money-value = refl
+
+pub added-value : (a b : Mills) → added a b .0 ≡ a .0 +ℤ b .0
+unfolding added
+added-value a b = refl
+
+-- an amount is what it brings in less what it takes out
+parts : (z : ℤ) → z ≡ pos (positivePart z) -ℤ pos (positivePart (negℤ z))
+unfolding positivePart
+parts (pos zero) = refl
+parts (pos (suc n)) = sym (+ℤ-idr (pos (suc n)))
+parts (negsuc n) = sym (+ℤ-idl (negsuc n))
+
+pub in-and-out : (a : Units) → a .0 ≡ pos (inward a .0) -ℤ pos (outward a .0)
+unfolding inward outward opposite
+in-and-out a = parts (a .0)
+
+pub no-inward : inward nothing .0 ≡ 0
+unfolding inward nothing positivePart
+no-inward = refl
+
+pub no-outward : outward nothing .0 ≡ 0
+unfolding outward inward opposite nothing positivePart
+no-outward = refl
+
+-- ---- sizes
+
+pub size-amount : (q : Quantity) → size (amountOf q) ≡ q .0
+unfolding size amountOf
+size-amount q = refl
+
+pub within-size : (low high : ℕ) (a : Units) → within low high a ≡ true → low ≤ high → size a ≤ high
+unfolding within size
+within-size low high a h l = size-between low high (a .0) h l
+
+pub within-mills-size : (n : ℕ) (m : Mills) → withinMills n m ≡ true → sizeMills m ≤ n
+unfolding withinMills sizeMills
+within-mills-size n m h = size-between n n (m .0) h (omega arith)
