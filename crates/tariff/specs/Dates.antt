@@ -35,6 +35,10 @@ sameDate a b = eqb (a .year) (b .year) && sameMonth (a .month) (b .month) && eqb
 unfoldable pub isOn : Month → ℕ → Date → Bool
 isOn m day d = sameMonth (d .month) m && eqb (d .day) day
 
+-- "April 1", which begins a gas year
+unfoldable pub firstOfGasYear : Date → Bool
+firstOfGasYear d = isOn april 1 d
+
 -- the date closes its month
 unfoldable pub lastOfMonth : Date → Bool
 lastOfMonth d = eqb (d .day) (monthLength (d .year) (d .month))

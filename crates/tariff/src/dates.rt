@@ -2,7 +2,7 @@
 ghost use mathlib.Core.Path.{_≡_};
 ghost use mathlib.Core.Bool.{true, false};
 ghost use Prim.Native.Nat.{_+_, _<_, _≤_, _^_};
-ghost use Rattle.tariff.specs.Dates.{leap, monthLength, real, sameDate, isOn, lastOfMonth, lastDate, dayAfter, dayNumber, weekday, measurementDay, onMeasurementDay};
+ghost use Rattle.tariff.specs.Dates.{leap, monthLength, real, sameDate, isOn, firstOfGasYear, lastOfMonth, lastDate, dayAfter, dayNumber, weekday, measurementDay, onMeasurementDay};
 use crate::choice::choose;
 use crate::months::Month;
 
@@ -60,6 +60,13 @@ impl Date {
     {
         let own = self.month;
         own.is(month) & (self.day == day)
+    }
+
+    // April 1.
+    pub fn first_of_gas_year(self) -> bool
+        ensures { λ r. ⌜ r ≡ firstOfGasYear self ⌝ }
+    {
+        self.is_on(Month::APRIL, 1)
     }
 
     pub fn last_of_month(self) -> bool

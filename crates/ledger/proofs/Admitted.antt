@@ -1,0 +1,120 @@
+-- What an entry has that passed 1 to 7 and 20 to 22, kind by kind.
+use Prim.Native.Nat.{ℕ, _+_, _≤_, _<_}
+use mathlib.Core.Path.{_≡_, refl, sym, _∙_}
+use mathlib.Core.Bool.{Bool, true, false, cond, not, _&&_, _||_}
+use native.Mathlib.Omega.{arith}
+use lib.Dec.{leb, eqb}
+use borrow.Author.Tests.{leb-true, leb-false, le-leb, eqb-false, eq-eqb, ne-eqb, not-false}
+use Rattle.tariff.specs.Dates.{real, sameDate}
+use Rattle.tariff.specs.Terms.{termsInRange}
+use Rattle.tariff.specs.Bill.{pricesInRange}
+use Rattle.tariff.proofs.Bools.{and-left, and-right, or-left, or-right, parts}
+use Rattle.ledger.specs.Checks.{verdict}
+use Rattle.ledger.specs.Entries.{usesA, usesB, termsOf, pricesOf, accountTooHigh, unusedSet, someUnits, wordsInRange, lettersDiffer, entryChecks, entryNumber}
+use Rattle.ledger.specs.Ranges.{inRange}
+use Rattle.ledger.specs.Posting.{standingChecks, admission}
+use Rattle.ledger.specs.declared.state.Ledger.{Ledger}
+use Rattle.ledger.specs.declared.entries.Entry.{Entry}
+use Rattle.ledger.proofs.KindCases.{wordsBy, words-at}
+use Rattle.ledger.proofs.Verdicts.{clear, verdict-append}
+
+-- a number that is at least n, and not n
+pub next-up : (n k : ℕ) → n ≤ k → (k ≡ n → ⊥) → n + 1 ≤ k
+next-up n k h d = omega arith
+
+-- the entry's own number where it has one, else what the ledger says
+pub admission-by : (l : Ledger) (e : Entry) → admission l e ≡ cond (eqb (entryNumber e) 0) (verdict (standingChecks l e)) (entryNumber e)
+unfolding admission entryNumber entryChecks
+admission-by l e = verdict-append (entryChecks e) (standingChecks l e) refl
+
+module _ (l : Ledger) (e : Entry) (h : admission l e ≡ 0) where
+  pub is-kind : (1 ≤ e .kind) × (e .kind ≤ 9)
+  unfolding admission entryChecks standingChecks
+  is-kind =
+      let t : leb 1 (e .kind) && leb (e .kind) 9 ≡ true = not-false _ (clear _ refl h 0) in
+      (leb-true 1 (e .kind) (search parts), leb-true (e .kind) 9 (search parts))
+
+  pub is-real : real (e .date) ≡ true
+  unfolding admission entryChecks standingChecks
+  is-real = not-false (real (e .date)) (clear _ refl h 1)
+
+  accounts-fit : accountTooHigh e ≡ false
+  unfolding admission entryChecks standingChecks
+  accounts-fit = clear _ refl h 2
+
+  words-fit : wordsInRange e ≡ true
+  unfolding admission entryChecks standingChecks
+  words-fit = not-false (wordsInRange e) (clear _ refl h 4)
+
+  letters-agree : lettersDiffer e ≡ false
+  unfolding admission entryChecks standingChecks
+  letters-agree = clear _ refl h 5
+
+  pub is-ranged : inRange l ≡ true
+  unfolding admission entryChecks standingChecks
+  is-ranged = not-false (inRange l) (clear _ refl h 6)
+
+  not-begun-checked : not (l .begun) && not (eqb (e .kind) 1) ≡ false
+  unfolding admission entryChecks standingChecks
+  not-begun-checked = clear _ refl h 7
+
+  -- another kind than TERMS comes to a ledger that has begun
+  pub is-begun : (e .kind ≡ 1 → ⊥) → l .begun ≡ true
+  is-begun n = go (l .begun) (rw (ne-eqb (e .kind) 1 n) at not-begun-checked)
+    where
+      go : (b : Bool) → not b && true ≡ false → b ≡ true
+      go true q = refl
+      go false q = sym q
+
+  pub a-fits : 2 ≤ e .kind → e .kind ≤ 7 → e .a < 16
+  unfolding accountTooHigh usesA
+  a-fits p q =
+      leb-false 16 (e .a)
+      (rw (le-leb 2 (e .kind) p, le-leb (e .kind) 7 q) at (or-left ((leb 2 (e .kind) && leb (e .kind) 7) && leb 16 (e .a)) (usesB (e .kind) && leb 16 (e .b)) accounts-fit))
+
+  pub b-fits : e .kind ≡ 4 → e .b < 16
+  unfolding accountTooHigh usesB
+  b-fits k =
+      leb-false 16 (e .b)
+      (rw (eq-eqb (e .kind) 4 k) at (or-right (usesA (e .kind) && leb 16 (e .a)) (eqb (e .kind) 4 && leb 16 (e .b)) accounts-fit))
+
+  -- ---- the words, kind by kind
+
+  words-of : (n : ℕ) → e .kind ≡ n → wordsBy e n ≡ true
+  words-of n k = sym (words-at e n k) ∙ words-fit
+
+  pub terms-fit : e .kind ≡ 1 → termsInRange (termsOf e) ≡ true
+  terms-fit k = words-of 1 k
+
+  pub enrol-fits : e .kind ≡ 2 → (e .w1 ≤ 300000) × (e .w2 ≤ 1000000000)
+  enrol-fits k =
+      let t : leb (e .w1) 300000 && leb (e .w2) 1000000000 ≡ true = words-of 2 k in
+      (leb-true (e .w1) 300000 (search parts), leb-true (e .w2) 1000000000 (search parts))
+
+  pub deliver-fits : e .kind ≡ 3 → (e .w1 ≤ 1000000000) × (e .w2 ≤ 1000000000)
+  deliver-fits k =
+      let t : leb (e .w1) 1000000000 && leb (e .w2) 1000000000 ≡ true = words-of 3 k in
+      (leb-true (e .w1) 1000000000 (search parts), leb-true (e .w2) 1000000000 (search parts))
+
+  units-fit : (w : ℕ) → someUnits w ≡ true → w ≤ 1000000000
+  unfolding someUnits
+  units-fit w t = leb-true w 1000000000 (and-right (leb 1 w) (leb w 1000000000) t)
+
+  pub transfer-fits : e .kind ≡ 4 → (e .w1 ≤ 1000000000) × (e .a ≡ e .b → ⊥)
+  unfolding lettersDiffer
+  transfer-fits k = (
+    units-fit (e .w1) (and-left (someUnits (e .w1)) (someUnits (e .w2)) (words-of 4 k)),
+    eqb-false (e .a) (e .b) (or-left (eqb (e .a) (e .b)) (not (eqb (e .w1) (e .w2))) (rw (eq-eqb (e .kind) 4 k) at letters-agree)),
+  )
+
+  pub trade-fits : e .kind ≡ 5 → e .w1 ≤ 1000000000
+  trade-fits k = units-fit (e .w1) (words-of 5 k)
+
+  pub measure-fits : e .kind ≡ 6 → e .w1 ≤ 300000
+  measure-fits k = leb-true (e .w1) 300000 (words-of 6 k)
+
+  pub usage-fits : e .kind ≡ 7 → e .w1 ≤ 100000000
+  usage-fits k = leb-true (e .w1) 100000000 (words-of 7 k)
+
+  pub prices-fit : e .kind ≡ 9 → pricesInRange (pricesOf e) ≡ true
+  prices-fit k = words-of 9 k

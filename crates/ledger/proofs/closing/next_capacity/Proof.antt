@@ -1,0 +1,19 @@
+use borrow.Author.Needs.{needs}
+use Rattle.ledger.specs.Closing.{nextCapacity}
+use Rattle.tariff.specs.Steps.{settledStep}
+use Rattle.ledger.proofs.closing.next_capacity.Statement.{statement}
+use Rattle.ledger.proofs.closing.next_capacity.Tie as tie
+
+settled-requires : tie.Need-settled-requires
+settled-requires c κs = search needs
+
+capacity-requires : tie.Need-capacity-requires
+unfolding settledStep
+capacity-requires c κs = let s = c .before in (s .pre .0, rw (c .settled .ensures) (s .pre .1))
+
+returns : tie.Need-returns
+unfolding nextCapacity
+returns c = (rw (c .capacity .ensures .0, c .before .settled .ensures), c .capacity .ensures .1 .1)
+
+pub next-capacity-spec : {M : Type 1} → statement M
+next-capacity-spec = tie.close (tie.spec settled-requires capacity-requires returns)

@@ -1,0 +1,59 @@
+use borrow.Author.Needs.{needs}
+use borrow.Author.Tests.{eq-eqb, ne-eqb}
+use mathlib.Core.Path.{_∙_, sym}
+use Rattle.ledger.proofs.Admitted.{admission-by}
+use Rattle.ledger.specs.Checks.{verdict}
+use Rattle.ledger.specs.Entries.{entryNumber}
+use Rattle.ledger.specs.Posting.{standingChecks}
+use Rattle.ledger.proofs.postings.admission.Statement.{statement}
+use Rattle.ledger.proofs.postings.admission.Tie as tie
+
+number-requires : tie.Need-number-requires
+number-requires c κs = search needs
+
+returns : tie.Need-returns
+returns c =
+    let s = c .before .before .before .before in
+    rw (c .before .number .ensures)
+    (sym (admission-by (s .args .l) (s .args .e) ∙ rw (ne-eqb (entryNumber (s .args .e)) 0 (λ z. c .if1 .taken (c .before .number .ensures ∙ z)))))
+
+in-range-requires : tie.Need-in-range-requires
+in-range-requires c κs = search needs
+
+same-requires : tie.Need-same-requires
+same-requires c κs = search needs
+
+refuse-requires : tie.Need-refuse-requires
+refuse-requires c κs = search needs
+
+refuse-requires-2 : tie.Need-refuse-requires-2
+refuse-requires-2 c κs = search needs
+
+refuse-requires-3 : tie.Need-refuse-requires-3
+refuse-requires-3 c κs = search needs
+
+returns-2 : tie.Need-returns-2
+unfolding standingChecks verdict
+returns-2 c =
+    let s = c .before .before .before .before .before .before .before .before .before .before .before .before in
+    rw (
+      c .refuse3 .ensures,
+      c .before .refuse2 .ensures,
+      c .before .before .refuse .ensures,
+      c .before .before .before .before .same .ensures,
+      c .before .before .before .before .before .before .before .in-range .ensures,
+    )
+    (sym (admission-by (s .args .l) (s .args .e) ∙ rw (eq-eqb (entryNumber (s .args .e)) 0 (sym (c .before .before .before .before .before .before .before .before .before .number .ensures) ∙ c .before .before .before .before .before .before .before .before .if1 .left))))
+
+pub admission-spec : {M : Type 1} → statement M
+admission-spec =
+    tie.close
+    (tie.spec
+    number-requires
+    returns
+    in-range-requires
+    same-requires
+    refuse-requires
+    refuse-requires-2
+    refuse-requires-3
+    returns-2)

@@ -1,0 +1,221 @@
+-- "Both closings, for each open account: V3 … V8. Then V7: cash-in up to minimum × BCQ. V8: cash-out down to maximum × BCQ. Any V adds one violation day. If bank ≤ maximum × BCQ the excuse ends. The date moves on a day; marks of the day clear."
+use Prim.Native.Nat.{ℕ, _+_}
+use mathlib.Core.Bool.{Bool, true, false, cond, not, _&&_, _||_}
+use mathlib.Core.List.{List, [], _∷_, map}
+use lib.Dec.{eqb}
+use lib.IntN.{pos}
+use Rattle.tariff.specs.Amounts.{sum, less, inward, outward, together, added}
+use Rattle.tariff.specs.Dates.{lastOfMonth, lastDate, dayAfter, onMeasurementDay}
+use Rattle.tariff.specs.Terms.{capacityOf}
+use Rattle.tariff.specs.Steps.{settledStep, falls}
+use Rattle.tariff.specs.Closing.{withdrawalLimit, breaksV3, breaksV4, breaksV5, breaksV6, breaksV7, breaksV8, cashOf, endsExcuse, carryOf, forfeitOf, maskOf}
+use Rattle.tariff.specs.Bill.{billOf}
+use Rattle.tariff.specs.declared.amounts.Mills.{Mills}
+use Rattle.tariff.specs.declared.amounts.Quantity.{Quantity}
+use Rattle.tariff.specs.declared.amounts.Units.{Units}
+use Rattle.tariff.specs.declared.bill.Prices.{Prices}
+use Rattle.tariff.specs.declared.bill.Totals.{Totals}
+use Rattle.tariff.specs.declared.dates.Date.{Date}
+use Rattle.tariff.specs.declared.terms.Capacity.{Capacity}
+use Rattle.tariff.specs.declared.terms.Terms.{Terms}
+use Rattle.ledger.specs.Checks.{Check, verdict}
+use Rattle.ledger.specs.Entries.{pricesOf}
+use Rattle.ledger.specs.State.{noTotals}
+use Rattle.ledger.specs.Ranges.{accountInRange, everyAccount}
+use Rattle.ledger.specs.Answers.{quiet, refused}
+use Rattle.ledger.specs.declared.state.Account.{Account}
+use Rattle.ledger.specs.declared.state.Ledger.{Ledger}
+use Rattle.ledger.specs.declared.state.Marks.{Marks}
+use Rattle.ledger.specs.declared.entries.Entry.{Entry}
+use Rattle.ledger.specs.declared.answers.Report.{Report}
+use Rattle.ledger.specs.declared.answers.Posted.{Posted}
+use Rattle.ledger.specs.declared.closing.Closed.{Closed}
+
+-- ---- what both closings do to an open account, d being the day closed
+
+unfoldable pub limitOf : Date → Account → Quantity
+limitOf d a = withdrawalLimit (d .month) (a .capacity .bcq) (a .carry)
+
+-- V1 and V2 are the day's marks; V3 to V8 are judged on the account as the closing finds it
+unfoldable pub violationsOf : Date → Account → ℕ
+violationsOf d a =
+    maskOf (a .marks .v1) (a .marks .v2)
+    (breaksV3 (d .month) (a .capacity .bcq) (a .month .net))
+    (breaksV4 (d .month) (limitOf d a) (a .month .net))
+    (breaksV5 d (a .capacity .bcq) (a .month .net))
+    (breaksV6 d (a .capacity .bcq) (a .bank))
+    (breaksV7 (a .bank))
+    (breaksV8 (a .marks .excused) (a .capacity .bcq) (a .bank))
+
+unfoldable pub cashAt : Date → Account → Units
+cashAt d a = cashOf (d .month) (a .marks .excused) (a .capacity .bcq) (a .bank)
+
+unfoldable pub withCash : Totals → Units → Totals
+withCash m cash =
+    record {
+      net = m .net;
+      sales = m .sales;
+      purchases = m .purchases;
+      «cash_ins» = together (m .«cash_ins») (inward cash);
+      «cash_outs» = together (m .«cash_outs») (outward cash);
+      usage = m .usage;
+    }
+
+-- the day's marks clear, and the excuse ends where the bank after cash fits
+unfoldable pub dayMarks : Date → Account → Units → Marks
+dayMarks d a bank =
+    record {
+      delivered = false;
+      measured = a .marks .measured;
+      metered = a .marks .metered;
+      v1 = false;
+      v2 = false;
+      excused = a .marks .excused && not (endsExcuse (d .month) (a .capacity .bcq) bank);
+    }
+
+-- the account after the violations and the cash of the day
+unfoldable pub dayEnd : Date → ℕ → Units → Account → Account
+dayEnd d mask cash a =
+    record {
+      opened = a .opened;
+      bank = sum (a .bank) cash;
+      mdq = a .mdq;
+      step = a .step;
+      capacity = a .capacity;
+      month = withCash (a .month) cash;
+      carry = a .carry;
+      owed = a .owed;
+      «violation_days» = a .«violation_days» + cond (eqb mask 0) 0 1;
+      marks = dayMarks d a (sum (a .bank) cash);
+    }
+
+unfoldable pub dayClosed : Date → Account → Account
+dayClosed d a = dayEnd d (violationsOf d a) (cashAt d a) a
+
+-- ---- "CLOSE MONTH then, months named being the one closed: bill = …, added to owed. Carry = …. Pending becomes k; a fall sets the excuse; MDDQ and BCQ are reworked. Month numbers and marks but the excuse clear. Last, … is forfeited, all of the excess over the reworked BCQ." Of the account that the day's part left:
+
+unfoldable pub billAt : Terms → Prices → Account → Mills
+billAt t p a = billOf t p (a .capacity .mddq) (a .month)
+
+unfoldable pub nextCapacity : Terms → Account → Capacity
+nextCapacity t a = capacityOf t (settledStep (a .step) .k)
+
+unfoldable pub forfeitAt : Date → Terms → Account → Quantity
+forfeitAt d t a = forfeitOf (d .month) (nextCapacity t a .bcq) (a .bank)
+
+unfoldable pub monthMarks : Account → Marks
+monthMarks a =
+    record {
+      delivered = false;
+      measured = false;
+      metered = false;
+      v1 = false;
+      v2 = false;
+      excused = a .marks .excused || falls (a .step);
+    }
+
+-- the account with its reworked capacity, what it forfeits and what it is billed
+unfoldable pub monthEnd : Date → Capacity → Quantity → Mills → Account → Account
+monthEnd d capacity forfeit bill a =
+    record {
+      opened = a .opened;
+      bank = less (a .bank) forfeit;
+      mdq = a .mdq;
+      step = settledStep (a .step);
+      capacity = capacity;
+      month = noTotals;
+      carry = carryOf (d .month) (limitOf d a) (a .month .net);
+      owed = added (a .owed) bill;
+      «violation_days» = a .«violation_days»;
+      marks = monthMarks a;
+    }
+
+unfoldable pub monthClosed : Date → Terms → Prices → Account → Account
+monthClosed d t p a = monthEnd d (nextCapacity t a) (forfeitAt d t a) (billAt t p a) a
+
+-- ---- an account at a closing: after the day's part, at the end, and what is reported of it
+
+unfoldable pub closedDay : Date → Account → Closed
+closedDay d a =
+    record {
+      day = dayClosed d a;
+      account = dayClosed d a;
+      report =
+          record {
+            mask = violationsOf d a;
+            cash = cashAt d a;
+            forfeit = record { 0 = 0 };
+            bill = record { 0 = pos 0 };
+          };
+    }
+
+unfoldable pub closedMonth : Date → Terms → Prices → Account → Closed
+closedMonth d t p a =
+    record {
+      day = dayClosed d a;
+      account = monthClosed d t p (dayClosed d a);
+      report =
+          record {
+            mask = violationsOf d a;
+            cash = cashAt d a;
+            forfeit = forfeitAt d t (dayClosed d a);
+            bill = billAt t p (dayClosed d a);
+          };
+    }
+
+unfoldable pub notOpen : Account → Closed
+notOpen a = record { day = a; account = a; report = quiet }
+
+unfoldable pub closedAccount : Terms → Entry → Account → Closed
+closedAccount t e a =
+    cond (a .opened)
+    (cond (eqb (e .kind) 9) (closedMonth (e .date) t (pricesOf e) a) (closedDay (e .date) a))
+    (notOpen a)
+
+unfoldable pub accountClosed : Terms → Entry → Account → Account
+accountClosed t e a = closedAccount t e a .account
+
+unfoldable pub reportOf : Terms → Entry → Account → Report
+reportOf t e a = closedAccount t e a .report
+
+-- ---- the checks
+
+-- "closing of the wrong kind; any closing on 31 December 2099"
+unfoldable pub wrongClosing : Entry → Bool
+wrongClosing e =
+    (lastOfMonth (e .date) && eqb (e .kind) 8) || (not (lastOfMonth (e .date)) && eqb (e .kind) 9) || lastDate (e .date)
+
+-- "27 closing while an open account lacks DELIVER, on the measurement day MEASURE, or at month's end USAGE" is what this is not
+unfoldable pub complete : Date → Account → Bool
+complete d a =
+    not (a .opened)
+    || (a .marks .delivered && (not (onMeasurementDay d) || a .marks .measured) && (not (lastOfMonth d) || a .marks .metered))
+
+-- "29 a number would leave its range, even one that then clears" is what this is not: after the day's part, and at the end
+unfoldable pub staysInRange : Terms → Entry → Account → Bool
+staysInRange t e a = accountInRange (closedAccount t e a .day) && accountInRange (closedAccount t e a .account)
+
+unfoldable pub closingChecks : Ledger → Entry → List Check
+closingChecks l e =
+    (wrongClosing e, 23)
+    ∷ (not (everyAccount (complete (e .date)) (l .accounts)), 27)
+    ∷ (not (everyAccount (staysInRange (l .terms) e) (l .accounts)), 29)
+    ∷ []
+
+unfoldable pub closed : Ledger → Entry → Posted
+closed l e =
+    record {
+      answer = record { number = 0; reports = map (reportOf (l .terms) e) (l .accounts) };
+      ledger =
+          record {
+            begun = l .begun;
+            touched = false;
+            date = dayAfter (e .date);
+            terms = l .terms;
+            accounts = map (accountClosed (l .terms) e) (l .accounts);
+          };
+    }
+
+unfoldable pub postClosing : Ledger → Entry → Posted
+postClosing l e =
+    cond (eqb (verdict (closingChecks l e)) 0) (closed l e) (refused l (verdict (closingChecks l e)))

@@ -1,0 +1,67 @@
+-- "DELIVER: delivered less back-cast, × (10,000 − R) / 10,000, is the amount added to bank, and alone to month net. … V1 and V2 are marks that this day's closing reports."
+use Prim.Native.Nat.{ℕ}
+use mathlib.Core.Bool.{Bool, true, not}
+use mathlib.Core.List.{List, [], _∷_}
+use Rattle.tariff.specs.Amounts.{sum}
+use Rattle.tariff.specs.Delivery.{retained, breaksV1, shareOf, breaksV2}
+use Rattle.tariff.specs.declared.amounts.Quantity.{Quantity}
+use Rattle.tariff.specs.declared.amounts.Units.{Units}
+use Rattle.tariff.specs.declared.bill.Totals.{Totals}
+use Rattle.tariff.specs.declared.months.Month.{Month}
+use Rattle.ledger.specs.Checks.{Check, verdict}
+use Rattle.ledger.specs.State.{accountAt, withBank, withMonth, withMarks, withAccount}
+use Rattle.ledger.specs.Ranges.{accountInRange}
+use Rattle.ledger.specs.Answers.{settle}
+use Rattle.ledger.specs.declared.state.Account.{Account}
+use Rattle.ledger.specs.declared.state.Ledger.{Ledger}
+use Rattle.ledger.specs.declared.state.Marks.{Marks}
+use Rattle.ledger.specs.declared.entries.Entry.{Entry}
+use Rattle.ledger.specs.declared.answers.Posted.{Posted}
+
+unfoldable pub withNet : Totals → Units → Totals
+withNet m net =
+    record {
+      net = net;
+      sales = m .sales;
+      purchases = m .purchases;
+      «cash_ins» = m .«cash_ins»;
+      «cash_outs» = m .«cash_outs»;
+      usage = m .usage;
+    }
+
+-- the marks of a delivery: the share looks at the bank before
+unfoldable pub deliveryMarks : Month → Account → Units → Quantity → Marks
+deliveryMarks m a amount backCast =
+    record {
+      delivered = true;
+      measured = a .marks .measured;
+      metered = a .marks .metered;
+      v1 = breaksV1 m (a .capacity .bcq) amount;
+      v2 = breaksV2 (shareOf (a .bank) (a .capacity .bcq) backCast (a .mdq)) (a .capacity .mddq) amount;
+      excused = a .marks .excused;
+    }
+
+-- an account after an amount was delivered to it
+unfoldable pub delivered : Month → Account → Units → Quantity → Account
+delivered m a amount backCast =
+    withMarks (withMonth (withBank a (sum (a .bank) amount)) (withNet (a .month) (sum (a .month .net) amount)))
+    (deliveryMarks m a amount backCast)
+
+-- the amount of an entry under the retainage R
+unfoldable pub amountUnder : ℕ → Entry → Units
+amountUnder retainage e = retained retainage (record { 0 = e .w1 }) (record { 0 = e .w2 })
+
+unfoldable pub afterDelivery : Ledger → Entry → Account
+afterDelivery l e =
+    delivered (e .date .month) (accountAt l (e .a)) (amountUnder (l .terms .retainage) e) (record { 0 = e .w2 })
+
+-- "24 … another kind on one not open"; "26 second DELIVER that day"
+unfoldable pub deliverChecks : Ledger → Entry → List Check
+deliverChecks l e =
+    (not (accountAt l (e .a) .opened), 24)
+    ∷ (accountAt l (e .a) .marks .delivered, 26)
+    ∷ (not (accountInRange (afterDelivery l e)), 29)
+    ∷ []
+
+unfoldable pub postDeliver : Ledger → Entry → Posted
+postDeliver l e = settle l (verdict (deliverChecks l e)) (withAccount l (e .a) (afterDelivery l e))

@@ -1,0 +1,54 @@
+-- "ENROL: … k and pending = MDQ / 3,000 rounded up; MDDQ, BCQ as above. … The account's other numbers and marks start at 0; accounts are never closed."
+use Prim.Native.Nat.{ℕ}
+use mathlib.Core.Bool.{Bool, true, not}
+use mathlib.Core.List.{List, [], _∷_}
+use lib.IntN.{pos}
+use Rattle.tariff.specs.Amounts.{amountOf}
+use Rattle.tariff.specs.Dates.{firstOfGasYear}
+use Rattle.tariff.specs.Terms.{capacityOf}
+use Rattle.tariff.specs.Enrol.{staysOnFbs, openingTooHigh}
+use Rattle.tariff.specs.Steps.{firstStep}
+use Rattle.tariff.specs.declared.amounts.Dth.{Dth}
+use Rattle.tariff.specs.declared.amounts.Quantity.{Quantity}
+use Rattle.tariff.specs.declared.terms.Terms.{Terms}
+use Rattle.ledger.specs.Checks.{Check, verdict}
+use Rattle.ledger.specs.Entries.{processOnly, wishes}
+use Rattle.ledger.specs.State.{noTotals, noMarks, accountAt, withAccount}
+use Rattle.ledger.specs.Ranges.{accountInRange}
+use Rattle.ledger.specs.Answers.{settle}
+use Rattle.ledger.specs.declared.state.Account.{Account}
+use Rattle.ledger.specs.declared.state.Ledger.{Ledger}
+use Rattle.ledger.specs.declared.entries.Entry.{Entry}
+use Rattle.ledger.specs.declared.answers.Posted.{Posted}
+
+unfoldable pub newAccount : Terms → Dth → Quantity → Account
+newAccount t mdq opening =
+    record {
+      opened = true;
+      bank = amountOf opening;
+      mdq = mdq;
+      step = firstStep mdq;
+      capacity = capacityOf t (firstStep mdq .k);
+      month = noTotals;
+      carry = record { 0 = 0 };
+      owed = record { 0 = pos 0 };
+      «violation_days» = 0;
+      marks = noMarks;
+    }
+
+-- the account that an entry opens
+unfoldable pub enrolled : Ledger → Entry → Account
+enrolled l e = newAccount (l .terms) (record { 0 = e .w1 }) (record { 0 = e .w2 })
+
+-- "23 … ENROL off April 1"; "24 ENROL of an open account"; "25 stays on FBS"; "28 opening above 25 × BCQ"
+unfoldable pub enrolChecks : Ledger → Entry → List Check
+enrolChecks l e =
+    (not (firstOfGasYear (e .date)), 23)
+    ∷ (accountAt l (e .a) .opened, 24)
+    ∷ (staysOnFbs (processOnly e) (wishes e) (record { 0 = e .w1 }), 25)
+    ∷ (openingTooHigh (record { 0 = e .w2 }) (enrolled l e .capacity .bcq), 28)
+    ∷ (not (accountInRange (enrolled l e)), 29)
+    ∷ []
+
+unfoldable pub postEnrol : Ledger → Entry → Posted
+postEnrol l e = settle l (verdict (enrolChecks l e)) (withAccount l (e .a) (enrolled l e))

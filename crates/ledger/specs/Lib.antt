@@ -1,0 +1,15 @@
+pub mod Checks
+pub mod Entries
+pub mod State
+pub mod Ranges
+pub mod Answers
+pub mod Terms
+pub mod Enrol
+pub mod Deliver
+pub mod Transfer
+pub mod Trade
+pub mod Measure
+pub mod Usage
+pub mod Closing
+pub mod Posting
+pub mod Panel

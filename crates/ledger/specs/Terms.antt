@@ -1,0 +1,38 @@
+-- "TERMS begins the ledger on its date or replaces the terms. MDDQ = …; BCQ = …, for every open account."
+use Prim.Native.Nat.{ℕ}
+use mathlib.Core.Bool.{Bool, true, not, cond}
+use mathlib.Core.List.{List, [], _∷_, map}
+use Rattle.tariff.specs.Dates.{firstOfGasYear}
+use Rattle.tariff.specs.Terms.{capacityOf}
+use Rattle.tariff.specs.declared.terms.Terms.{Terms}
+use Rattle.ledger.specs.Checks.{Check, verdict}
+use Rattle.ledger.specs.Entries.{termsOf}
+use Rattle.ledger.specs.State.{withCapacity}
+use Rattle.ledger.specs.Ranges.{inRange}
+use Rattle.ledger.specs.Answers.{settle}
+use Rattle.ledger.specs.declared.state.Account.{Account}
+use Rattle.ledger.specs.declared.state.Ledger.{Ledger}
+use Rattle.ledger.specs.declared.entries.Entry.{Entry}
+use Rattle.ledger.specs.declared.answers.Posted.{Posted}
+
+-- an open account's MDDQ and BCQ under terms
+unfoldable pub reworked : Terms → Account → Account
+reworked t a = cond (a .opened) (withCapacity a (capacityOf t (a .step .k))) a
+
+unfoldable pub termsNext : Ledger → Entry → Ledger
+termsNext l e =
+    record {
+      begun = true;
+      touched = true;
+      date = e .date;
+      terms = termsOf e;
+      accounts = map (reworked (termsOf e)) (l .accounts);
+    }
+
+-- "23 TERMS … off April 1; TERMS after an accepted posting that day"
+unfoldable pub termsChecks : Ledger → Entry → List Check
+termsChecks l e =
+    (not (firstOfGasYear (e .date)), 23) ∷ (l .touched, 23) ∷ (not (inRange (termsNext l e)), 29) ∷ []
+
+unfoldable pub postTerms : Ledger → Entry → Posted
+postTerms l e = settle l (verdict (termsChecks l e)) (termsNext l e)

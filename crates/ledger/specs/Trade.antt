@@ -1,0 +1,53 @@
+-- "TRADE: A; flag 0 company sells to A, 1 buys"
+use Prim.Native.Nat.{ℕ}
+use mathlib.Core.Bool.{Bool, cond, not}
+use mathlib.Core.List.{List, [], _∷_}
+use Rattle.tariff.specs.Amounts.{more, less, together}
+use Rattle.tariff.specs.Limits.{aboveMaximum, belowMinimum}
+use Rattle.tariff.specs.declared.amounts.Quantity.{Quantity}
+use Rattle.tariff.specs.declared.bill.Totals.{Totals}
+use Rattle.ledger.specs.Checks.{Check, verdict}
+use Rattle.ledger.specs.Entries.{companySells}
+use Rattle.ledger.specs.State.{accountAt, withBank, withMonth, withAccount}
+use Rattle.ledger.specs.Ranges.{accountInRange}
+use Rattle.ledger.specs.Answers.{settle}
+use Rattle.ledger.specs.declared.state.Account.{Account}
+use Rattle.ledger.specs.declared.state.Ledger.{Ledger}
+use Rattle.ledger.specs.declared.entries.Entry.{Entry}
+use Rattle.ledger.specs.declared.answers.Posted.{Posted}
+
+-- a sale adds to the month's sales, a purchase to its purchases
+unfoldable pub withTrade : Bool → Totals → Quantity → Totals
+withTrade sells m q =
+    record {
+      net = m .net;
+      sales = cond sells (together (m .sales) q) (m .sales);
+      purchases = cond sells (m .purchases) (together (m .purchases) q);
+      «cash_ins» = m .«cash_ins»;
+      «cash_outs» = m .«cash_outs»;
+      usage = m .usage;
+    }
+
+unfoldable pub traded : Bool → Account → Quantity → Account
+traded sells a q =
+    withMonth (withBank a (cond sells (more (a .bank) q) (less (a .bank) q))) (withTrade sells (a .month) q)
+
+unfoldable pub afterTrade : Ledger → Entry → Account
+afterTrade l e = traded (companySells e) (accountAt l (e .a)) (record { 0 = e .w1 })
+
+-- past the maximum by a sale, below the minimum by a purchase
+unfoldable pub pastLimit : Ledger → Entry → Bool
+pastLimit l e =
+    cond (companySells e)
+    (aboveMaximum (e .date .month) (afterTrade l e .capacity .bcq) (afterTrade l e .bank))
+    (belowMinimum (e .date .month) (afterTrade l e .capacity .bcq) (afterTrade l e .bank))
+
+unfoldable pub tradeChecks : Ledger → Entry → List Check
+tradeChecks l e =
+    (not (accountAt l (e .a) .opened), 24)
+    ∷ (pastLimit l e, 28)
+    ∷ (not (accountInRange (afterTrade l e)), 29)
+    ∷ []
+
+unfoldable pub postTrade : Ledger → Entry → Posted
+postTrade l e = settle l (verdict (tradeChecks l e)) (withAccount l (e .a) (afterTrade l e))

@@ -1,0 +1,54 @@
+-- "USAGE: A; w1 Mcf": it sets the month's consumption.
+use Prim.Native.Nat.{ℕ}
+use mathlib.Core.Bool.{Bool, true, not}
+use mathlib.Core.List.{List, [], _∷_}
+use Rattle.tariff.specs.declared.amounts.Mcf.{Mcf}
+use Rattle.tariff.specs.declared.bill.Totals.{Totals}
+use Rattle.ledger.specs.Checks.{Check, verdict}
+use Rattle.ledger.specs.State.{accountAt, withMonth, withMarks, withAccount}
+use Rattle.ledger.specs.Ranges.{accountInRange}
+use Rattle.ledger.specs.Answers.{settle}
+use Rattle.ledger.specs.declared.state.Account.{Account}
+use Rattle.ledger.specs.declared.state.Ledger.{Ledger}
+use Rattle.ledger.specs.declared.state.Marks.{Marks}
+use Rattle.ledger.specs.declared.entries.Entry.{Entry}
+use Rattle.ledger.specs.declared.answers.Posted.{Posted}
+
+unfoldable pub withUsage : Totals → Mcf → Totals
+withUsage m usage =
+    record {
+      net = m .net;
+      sales = m .sales;
+      purchases = m .purchases;
+      «cash_ins» = m .«cash_ins»;
+      «cash_outs» = m .«cash_outs»;
+      usage = usage;
+    }
+
+unfoldable pub usageMark : Marks → Marks
+usageMark m =
+    record {
+      delivered = m .delivered;
+      measured = m .measured;
+      metered = true;
+      v1 = m .v1;
+      v2 = m .v2;
+      excused = m .excused;
+    }
+
+unfoldable pub metered : Account → Mcf → Account
+metered a usage = withMarks (withMonth a (withUsage (a .month) usage)) (usageMark (a .marks))
+
+unfoldable pub afterUsage : Ledger → Entry → Account
+afterUsage l e = metered (accountAt l (e .a)) (record { 0 = e .w1 })
+
+-- "26 second … USAGE that month"
+unfoldable pub usageChecks : Ledger → Entry → List Check
+usageChecks l e =
+    (not (accountAt l (e .a) .opened), 24)
+    ∷ (accountAt l (e .a) .marks .metered, 26)
+    ∷ (not (accountInRange (afterUsage l e)), 29)
+    ∷ []
+
+unfoldable pub postUsage : Ledger → Entry → Posted
+postUsage l e = settle l (verdict (usageChecks l e)) (withAccount l (e .a) (afterUsage l e))

@@ -1,0 +1,359 @@
+// CLOSE DAY and CLOSE MONTH.
+ghost use mathlib.Core.Path.{_≡_};
+ghost use mathlib.Core.Bool.{true, false, cond};
+ghost use Prim.Native.Nat.{_+_, _≤_};
+ghost use lib.Dec.{eqb};
+ghost use Rattle.tariff.specs.Amounts.{size, sizeMills};
+ghost use Rattle.tariff.specs.Dates.{real};
+ghost use Rattle.tariff.specs.Terms.{termsInRange};
+ghost use Rattle.tariff.specs.Bill.{pricesInRange};
+ghost use Rattle.ledger.specs.Entries.{pricesOf};
+ghost use Rattle.ledger.specs.Ranges.{accountInRange, inRange, everyAccount};
+ghost use Rattle.ledger.specs.Posting.{admission};
+ghost use Rattle.ledger.specs.Closing.{limitOf, violationsOf, cashAt, withCash, dayMarks, dayEnd, dayClosed, monthMarks, monthEnd, monthClosed, nextCapacity, forfeitAt, billAt, closedDay, closedMonth, notOpen, closedAccount, accountClosed, reportOf, staysInRange, wrongClosing, complete, closed, postClosing};
+use crate::answers::Answer;
+use crate::answers::Posted;
+use crate::answers::Report;
+use crate::answers::quiet;
+use crate::answers::refused;
+use crate::entries::Entry;
+use crate::ranges::account_in_range;
+use crate::state::Account;
+use crate::state::Ledger;
+use crate::state::Marks;
+use crate::state::no_marks;
+use crate::state::no_totals;
+use tariff::amounts::Mills;
+use tariff::amounts::Quantity;
+use tariff::amounts::Units;
+use tariff::bill::Prices;
+use tariff::bill::Totals;
+use tariff::bill::bill;
+use tariff::closing::breaks_v3;
+use tariff::closing::breaks_v4;
+use tariff::closing::breaks_v5;
+use tariff::closing::breaks_v6;
+use tariff::closing::breaks_v7;
+use tariff::closing::breaks_v8;
+use tariff::closing::carry;
+use tariff::closing::cash;
+use tariff::closing::ends_excuse;
+use tariff::closing::forfeit;
+use tariff::closing::mask;
+use tariff::closing::withdrawal_limit;
+use tariff::dates::Date;
+use tariff::terms::Capacity;
+use tariff::terms::Terms;
+
+// An account at a closing: after the day's part, at the end, and what is reported of it.
+pub struct Closed {
+    pub day: Account,
+    pub account: Account,
+    pub report: Report,
+}
+
+// The limit on a winter month's withdrawals.
+fn limit(d: Date, a: Account) -> Quantity
+    requires { ⌜ a .capacity .bcq .0 ≤ 30000000 ⌝ }
+    ensures { λ r. ⌜ r ≡ limitOf d a ⌝ }
+    ensures bounded { λ r. ⌜ r .0 ≤ 3060000000 ⌝ }
+{
+    let month = d.month;
+    let bcq = a.capacity.bcq;
+    let carried = a.carry;
+    withdrawal_limit(month, bcq, carried)
+}
+
+fn violations(d: Date, a: Account) -> u64
+    requires { ⌜ (real d ≡ true) × (accountInRange a ≡ true) ⌝ }
+    ensures { λ r. ⌜ r ≡ violationsOf d a ⌝ }
+{
+    let month = d.month;
+    let bcq = a.capacity.bcq;
+    let net = a.month.net;
+    let bank = a.bank;
+    let excused = a.marks.excused;
+    let limit = limit(d, a);
+    let v3 = breaks_v3(month, bcq, net);
+    let v4 = breaks_v4(month, limit, net);
+    let v5 = breaks_v5(d, bcq, net);
+    let v6 = breaks_v6(d, bcq, bank);
+    let v7 = breaks_v7(bank);
+    let v8 = breaks_v8(excused, bcq, bank);
+    mask(a.marks.v1, a.marks.v2, v3, v4, v5, v6, v7, v8)
+}
+
+fn cash_at(d: Date, a: Account) -> Units
+    requires { ⌜ accountInRange a ≡ true ⌝ }
+    ensures { λ r. ⌜ r ≡ cashAt d a ⌝ }
+    ensures bounded { λ r. ⌜ size r ≤ 103060000000 ⌝ }
+{
+    let month = d.month;
+    let bcq = a.capacity.bcq;
+    let bank = a.bank;
+    let excused = a.marks.excused;
+    cash(month, excused, bcq, bank)
+}
+
+fn with_cash(m: Totals, cash: Units) -> Totals
+    requires { ⌜ (m .«cash_ins» .0 ≤ 100000000000) × (m .«cash_outs» .0 ≤ 100000000000) × (size cash ≤ 103060000000) ⌝ }
+    ensures { λ r. ⌜ r ≡ withCash m cash ⌝ }
+{
+    let paid_in = m.cash_ins.plus(cash.inward());
+    let paid_out = m.cash_outs.plus(cash.outward());
+    let mut next = m;
+    next.cash_ins = paid_in;
+    next.cash_outs = paid_out;
+    next
+}
+
+fn day_marks(d: Date, a: Account, bank: Units) -> Marks
+    requires { ⌜ a .capacity .bcq .0 ≤ 30000000 ⌝ }
+    ensures { λ r. ⌜ r ≡ dayMarks d a bank ⌝ }
+{
+    let month = d.month;
+    let bcq = a.capacity.bcq;
+    let ends = ends_excuse(month, bcq, bank);
+    let mut marks = a.marks;
+    marks.delivered = false;
+    marks.v1 = false;
+    marks.v2 = false;
+    marks.excused = marks.excused & !ends;
+    marks
+}
+
+// One more violation day where anything was broken.
+fn days(so_far: u64, mask: u64) -> u64
+    requires { ⌜ «so_far» ≤ 40000 ⌝ }
+    ensures { λ r. ⌜ r ≡ «so_far» + cond (eqb mask 0) 0 1 ⌝ }
+{
+    if mask == 0 {
+        return so_far + 0;
+    }
+    so_far + 1
+}
+
+fn day_end(d: Date, mask: u64, cash: Units, a: Account) -> Account
+    requires { ⌜ (accountInRange a ≡ true) × (size cash ≤ 103060000000) ⌝ }
+    ensures { λ r. ⌜ r ≡ dayEnd d mask cash a ⌝ }
+{
+    let month = a.month;
+    let bank = a.bank.plus(cash);
+    let totals = with_cash(month, cash);
+    let marks = day_marks(d, a, bank);
+    let days = days(a.violation_days, mask);
+    let mut next = a;
+    next.bank = bank;
+    next.month = totals;
+    next.violation_days = days;
+    next.marks = marks;
+    next
+}
+
+fn close_day(d: Date, a: Account) -> Closed
+    requires { ⌜ (real d ≡ true) × (accountInRange a ≡ true) ⌝ }
+    ensures { λ r. ⌜ r ≡ closedDay d a ⌝ }
+{
+    let mask = violations(d, a);
+    let cash = cash_at(d, a);
+    let day = day_end(d, mask, cash, a);
+    let report = Report {
+        mask,
+        cash,
+        forfeit: Quantity(0),
+        bill: Mills(0),
+    };
+    Closed {
+        day,
+        account: day,
+        report,
+    }
+}
+
+fn next_capacity(t: Terms, a: Account) -> Capacity
+    requires { ⌜ (termsInRange t ≡ true) × (a .step .pending ≤ 100) ⌝ }
+    ensures { λ r. ⌜ r ≡ nextCapacity t a ⌝ }
+    ensures bounded { λ r. ⌜ r .bcq .0 ≤ 30000000 ⌝ }
+{
+    let step = a.step.settled();
+    t.capacity(step.k)
+}
+
+fn month_marks(a: Account) -> Marks
+    ensures { λ r. ⌜ r ≡ monthMarks a ⌝ }
+{
+    let fell = a.step.falls();
+    let mut marks = no_marks();
+    marks.excused = a.marks.excused | fell;
+    marks
+}
+
+fn month_end(d: Date, capacity: Capacity, forfeit: Quantity, bill: Mills, a: Account) -> Account
+    requires { ⌜ (size (a .bank) ≤ 300000000000) × (forfeit .0 ≤ 300000000000) ⌝ }
+    requires { ⌜ (sizeMills (a .owed) ≤ 1000000000000000) × (sizeMills bill ≤ 2000000000000000) ⌝ }
+    requires { ⌜ (a .capacity .bcq .0 ≤ 30000000) × (size (a .month .net) ≤ 100000000000) ⌝ }
+    ensures { λ r. ⌜ r ≡ monthEnd d capacity forfeit bill a ⌝ }
+{
+    let month = d.month;
+    let net = a.month.net;
+    let limit = limit(d, a);
+    let carried = carry(month, limit, net);
+    let bank = a.bank.less(forfeit);
+    let owed = a.owed.plus(bill);
+    let step = a.step.settled();
+    let totals = no_totals();
+    let marks = month_marks(a);
+    let mut next = a;
+    next.bank = bank;
+    next.step = step;
+    next.capacity = capacity;
+    next.month = totals;
+    next.carry = carried;
+    next.owed = owed;
+    next.marks = marks;
+    next
+}
+
+fn close_month(d: Date, t: Terms, p: Prices, a: Account) -> Closed
+    requires { ⌜ (real d ≡ true) × (accountInRange a ≡ true) × (a .opened ≡ true) ⌝ }
+    requires { ⌜ (termsInRange t ≡ true) × (pricesInRange p ≡ true) ⌝ }
+    ensures { λ r. ⌜ r ≡ closedMonth d t p a ⌝ }
+{
+    let month = d.month;
+    let mask = violations(d, a);
+    let cash = cash_at(d, a);
+    let day = day_end(d, mask, cash, a);
+    let capacity = next_capacity(t, day);
+    let mddq = day.capacity.mddq;
+    let totals = day.month;
+    let bill = bill(t, p, mddq, totals);
+    let bank = day.bank;
+    let forfeit = forfeit(month, capacity.bcq, bank);
+    let account = month_end(d, capacity, forfeit, bill, day);
+    let report = Report {
+        mask,
+        cash,
+        forfeit,
+        bill,
+    };
+    Closed {
+        day,
+        account,
+        report,
+    }
+}
+
+fn close_account(t: Terms, e: Entry, a: Account) -> Closed
+    requires { ⌜ (real (e .date) ≡ true) × (accountInRange a ≡ true) × (termsInRange t ≡ true) × (e .kind ≡ 9 → pricesInRange (pricesOf e) ≡ true) ⌝ }
+    ensures { λ r. ⌜ r ≡ closedAccount t e a ⌝ }
+{
+    let date = e.date;
+    let kind = e.kind;
+    if !a.opened {
+        let report = quiet();
+        return Closed {
+            day: a,
+            account: a,
+            report,
+        };
+    }
+    if kind == 9 {
+        return close_month(date, t, e.prices(), a);
+    }
+    close_day(date, a)
+}
+
+fn wrong_closing(e: Entry) -> bool
+    requires { ⌜ real (e .date) ≡ true ⌝ }
+    ensures { λ r. ⌜ r ≡ wrongClosing e ⌝ }
+{
+    let date = e.date;
+    let kind = e.kind;
+    let ends = date.last_of_month();
+    (ends & (kind == 8)) | (!ends & (kind == 9)) | date.last_date()
+}
+
+fn complete(d: Date, a: Account) -> bool
+    requires { ⌜ real d ≡ true ⌝ }
+    ensures { λ r. ⌜ r ≡ complete d a ⌝ }
+{
+    let marks = a.marks;
+    let measured = !d.on_measurement_day() | marks.measured;
+    let metered = !d.last_of_month() | marks.metered;
+    !a.opened | (marks.delivered & measured & metered)
+}
+
+fn all_complete(l: Ledger, d: Date) -> bool
+    requires { ⌜ real d ≡ true ⌝ }
+    ensures { λ r. ⌜ r ≡ everyAccount (complete d) (l .accounts) ⌝ }
+{
+    let mut ok = true;
+    for i in 0..16 {
+        let a = l.accounts[i];
+        let one = complete(d, a);
+        ok = ok & one;
+    }
+    ok
+}
+
+// All accounts at a closing, and whether every number stays in its range.
+struct Closings {
+    ledger: Ledger,
+    reports: [Report; 16],
+    fits: bool,
+}
+
+fn close_all(l: Ledger, e: Entry) -> Closings
+    requires { ⌜ (admission l e ≡ 0) × (8 ≤ e .kind) ⌝ }
+    ensures { λ r. ⌜ (r .ledger ≡ closed l e .ledger) × (r .reports ≡ closed l e .answer .reports) × (r .fits ≡ everyAccount (staysInRange (l .terms) e) (l .accounts)) ⌝ }
+{
+    let date = e.date;
+    let terms = l.terms;
+    let mut next = l;
+    let quiet = quiet();
+    let mut reports = [quiet; 16];
+    let mut fits = true;
+    for i in 0..16 {
+        let a = l.accounts[i];
+        let one = close_account(terms, e, a);
+        let day = one.day;
+        let account = one.account;
+        let report = one.report;
+        let both = account_in_range(day) & account_in_range(account);
+        next.accounts[i] = account;
+        reports[i] = report;
+        fits = fits & both;
+    }
+    let tomorrow = date.day_after();
+    next.date = tomorrow;
+    next.touched = false;
+    Closings {
+        ledger: next,
+        reports,
+        fits,
+    }
+}
+
+pub fn post_closing(l: Ledger, e: Entry) -> Posted
+    requires { ⌜ (admission l e ≡ 0) × (8 ≤ e .kind) ⌝ }
+    ensures { λ r. ⌜ r ≡ postClosing l e ⌝ }
+{
+    let date = e.date;
+    if wrong_closing(e) {
+        return refused(l, 23);
+    }
+    if !all_complete(l, date) {
+        return refused(l, 27);
+    }
+    let all = close_all(l, e);
+    if !all.fits {
+        return refused(l, 29);
+    }
+    let reports = all.reports;
+    let next = all.ledger;
+    let answer = Answer { number: 0, reports };
+    Posted {
+        answer,
+        ledger: next,
+    }
+}

@@ -1,0 +1,72 @@
+// DELIVER.
+ghost use mathlib.Core.Path.{_≡_};
+ghost use mathlib.Core.Bool.{true};
+ghost use Prim.Native.Nat.{_≤_};
+ghost use Rattle.tariff.specs.Amounts.{size};
+ghost use Rattle.ledger.specs.Ranges.{accountInRange};
+ghost use Rattle.ledger.specs.Posting.{admission};
+ghost use Rattle.ledger.specs.Deliver.{delivered, postDeliver};
+use crate::answers::Posted;
+use crate::answers::settle;
+use crate::checks::refuse;
+use crate::entries::Entry;
+use crate::ranges::account_in_range;
+use crate::state::Account;
+use crate::state::Ledger;
+use tariff::amounts::Quantity;
+use tariff::amounts::Units;
+use tariff::delivery::breaks_v1;
+use tariff::delivery::breaks_v2;
+use tariff::delivery::retained;
+use tariff::delivery::share_of;
+use tariff::months::Month;
+
+fn delivered(m: Month, a: Account, amount: Units, back_cast: Quantity) -> Account
+    requires { ⌜ (accountInRange a ≡ true) × (size amount ≤ 1000000000) ⌝ }
+    ensures { λ r. ⌜ r ≡ delivered m a amount «back_cast» ⌝ }
+{
+    let bank = a.bank;
+    let mdq = a.mdq;
+    let capacity = a.capacity;
+    let mddq = capacity.mddq;
+    let bcq = capacity.bcq;
+    let mut month = a.month;
+    let net = month.net;
+    let mut marks = a.marks;
+    let share = share_of(bank, bcq, back_cast, mdq);
+    let v1 = breaks_v1(m, bcq, amount);
+    let v2 = breaks_v2(share, mddq, amount);
+    let banked = bank.plus(amount);
+    let moved = net.plus(amount);
+    month.net = moved;
+    marks.delivered = true;
+    marks.v1 = v1;
+    marks.v2 = v2;
+    let mut next = a;
+    next.bank = banked;
+    next.month = month;
+    next.marks = marks;
+    next
+}
+
+pub fn post_deliver(l: Ledger, e: Entry) -> Posted
+    requires { ⌜ (admission l e ≡ 0) × (e .kind ≡ 3) ⌝ }
+    ensures { λ r. ⌜ r ≡ postDeliver l e ⌝ }
+{
+    let i = e.a;
+    let date = e.date;
+    let month = date.month;
+    let retainage = l.terms.retainage;
+    let a = l.accounts[i];
+    let back_cast = Quantity(e.w2);
+    let amount = retained(retainage, Quantity(e.w1), back_cast);
+    let b = delivered(month, a, amount, back_cast);
+    let out = !account_in_range(b);
+    let n = refuse(
+        24,
+        !a.opened,
+        refuse(26, a.marks.delivered, refuse(29, out, 0)),
+    );
+    let next = l.with_account(i, b);
+    settle(l, n, next)
+}

@@ -1,0 +1,77 @@
+// ENROL.
+ghost use mathlib.Core.Path.{_≡_};
+ghost use mathlib.Core.Bool.{true};
+ghost use Prim.Native.Nat.{_≤_};
+ghost use Rattle.tariff.specs.Terms.{termsInRange};
+ghost use Rattle.ledger.specs.Posting.{admission};
+ghost use Rattle.ledger.specs.Enrol.{newAccount, enrolled, postEnrol};
+use crate::answers::Posted;
+use crate::answers::settle;
+use crate::checks::refuse;
+use crate::entries::Entry;
+use crate::ranges::account_in_range;
+use crate::state::Account;
+use crate::state::Ledger;
+use crate::state::no_marks;
+use crate::state::no_totals;
+use tariff::amounts::Dth;
+use tariff::amounts::Mills;
+use tariff::amounts::Quantity;
+use tariff::amounts::Units;
+use tariff::enrol::opening_too_high;
+use tariff::enrol::stays_on_fbs;
+use tariff::steps::Step;
+use tariff::terms::Terms;
+
+fn new_account(t: Terms, mdq: Dth, opening: Quantity) -> Account
+    requires { ⌜ (termsInRange t ≡ true) × (mdq .0 ≤ 300000) × (opening .0 ≤ 1000000000) ⌝ }
+    ensures { λ r. ⌜ r ≡ newAccount t mdq opening ⌝ }
+    ensures bounded { λ r. ⌜ r .capacity .bcq .0 ≤ 30000000 ⌝ }
+{
+    let step = Step::first(mdq);
+    let capacity = t.capacity(step.k);
+    let month = no_totals();
+    let marks = no_marks();
+    let bank = Units::of(opening);
+    Account {
+        opened: true,
+        bank,
+        mdq,
+        step,
+        capacity,
+        month,
+        carry: Quantity(0),
+        owed: Mills(0),
+        violation_days: 0,
+        marks,
+    }
+}
+
+pub fn post_enrol(l: Ledger, e: Entry) -> Posted
+    requires { ⌜ (admission l e ≡ 0) × (e .kind ≡ 2) ⌝ }
+    ensures { λ r. ⌜ r ≡ postEnrol l e ⌝ }
+{
+    let i = e.a;
+    let date = e.date;
+    let terms = l.terms;
+    let a = l.accounts[i];
+    let mdq = Dth(e.w1);
+    let opening = Quantity(e.w2);
+    let b = new_account(terms, mdq, opening);
+    let bcq = b.capacity.bcq;
+    let off = !date.first_of_gas_year();
+    let stays = stays_on_fbs(e.process_only(), e.wishes(), mdq);
+    let above = opening_too_high(opening, bcq);
+    let out = !account_in_range(b);
+    let n = refuse(
+        23,
+        off,
+        refuse(
+            24,
+            a.opened,
+            refuse(25, stays, refuse(28, above, refuse(29, out, 0))),
+        ),
+    );
+    let next = l.with_account(i, b);
+    settle(l, n, next)
+}

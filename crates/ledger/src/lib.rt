@@ -1,0 +1,93 @@
+// The bank ledger: postings of nine kinds, and the panel.
+pub mod answers;
+mod checks;
+mod closing;
+mod deliver;
+mod enrol;
+pub mod entries;
+mod measure;
+pub mod panels;
+mod postings;
+mod ranges;
+pub mod state;
+mod terms;
+mod trade;
+mod transfer;
+mod usage;
+
+ghost use mathlib.Core.Path.{_≡_};
+ghost use Rattle.ledger.specs.State.{fresh};
+ghost use Rattle.ledger.specs.Posting.{posted};
+ghost use Rattle.ledger.specs.Panel.{panelOf};
+use crate::answers::Posted;
+use crate::answers::refused;
+use crate::entries::decode;
+use crate::panels::Panel;
+use crate::panels::open_banks;
+use crate::postings::admission;
+use crate::postings::post_kind;
+use crate::ranges::in_range;
+use crate::state::Ledger;
+use crate::state::nobody;
+use tariff::amounts::Dth;
+use tariff::amounts::Units;
+use tariff::dates::Date;
+use tariff::months::Month;
+use tariff::terms::Terms;
+
+// A ledger with no terms, no date and no open account.
+pub fn fresh() -> Ledger
+    ensures { λ r. ⌜ r ≡ fresh ⌝ }
+{
+    let nobody = nobody();
+    let accounts = [nobody; 16];
+    let date = Date {
+        year: 0,
+        month: Month(0),
+        day: 0,
+    };
+    let terms = Terms {
+        no_notice: Dth(0),
+        design_day: Dth(0),
+        storage: Dth(0),
+        retainage: 0,
+        demand_rate: 0,
+        commodity_rate: 0,
+    };
+    Ledger {
+        begun: false,
+        touched: false,
+        date,
+        terms,
+        accounts,
+    }
+}
+
+// Any bytes, to any ledger.
+pub fn post(ledger: Ledger, entry: &[u8]) -> Posted
+    ensures { λ r. ⌜ r ≡ posted ledger (now (entry .entry)) ⌝ }
+{
+    if entry.len() != 32 {
+        return refused(ledger, 1);
+    }
+    let e = decode(entry);
+    let n = admission(ledger, e);
+    if n != 0 {
+        return refused(ledger, n);
+    }
+    post_kind(ledger, e)
+}
+
+// The figure that suppliers trade by, or 20 on a ledger out of range.
+pub fn panel(ledger: Ledger) -> Panel
+    ensures { λ r. ⌜ r ≡ panelOf ledger ⌝ }
+{
+    if in_range(ledger) {
+        let figure = open_banks(ledger);
+        return Panel { number: 0, figure };
+    }
+    Panel {
+        number: 20,
+        figure: Units(0),
+    }
+}

@@ -1,0 +1,53 @@
+// MEASURE.
+ghost use mathlib.Core.Path.{_≡_};
+ghost use mathlib.Core.Bool.{true};
+ghost use Prim.Native.Nat.{_≤_};
+ghost use Rattle.ledger.specs.Ranges.{accountInRange};
+ghost use Rattle.ledger.specs.Posting.{admission};
+ghost use Rattle.ledger.specs.Measure.{remeasured, postMeasure};
+use crate::answers::Posted;
+use crate::answers::settle;
+use crate::checks::refuse;
+use crate::entries::Entry;
+use crate::ranges::account_in_range;
+use crate::state::Account;
+use crate::state::Ledger;
+use tariff::amounts::Dth;
+
+fn remeasured(a: Account, mdq: Dth) -> Account
+    requires { ⌜ (accountInRange a ≡ true) × (mdq .0 ≤ 300000) ⌝ }
+    ensures { λ r. ⌜ r ≡ remeasured a mdq ⌝ }
+{
+    let step = a.step;
+    let mut marks = a.marks;
+    let measured = step.measured(mdq);
+    marks.measured = true;
+    let mut next = a;
+    next.mdq = mdq;
+    next.step = measured;
+    next.marks = marks;
+    next
+}
+
+pub fn post_measure(l: Ledger, e: Entry) -> Posted
+    requires { ⌜ (admission l e ≡ 0) × (e .kind ≡ 6) ⌝ }
+    ensures { λ r. ⌜ r ≡ postMeasure l e ⌝ }
+{
+    let i = e.a;
+    let date = e.date;
+    let a = l.accounts[i];
+    let off = !date.on_measurement_day();
+    let b = remeasured(a, Dth(e.w1));
+    let out = !account_in_range(b);
+    let n = refuse(
+        23,
+        off,
+        refuse(
+            24,
+            !a.opened,
+            refuse(26, a.marks.measured, refuse(29, out, 0)),
+        ),
+    );
+    let next = l.with_account(i, b);
+    settle(l, n, next)
+}

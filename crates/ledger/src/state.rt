@@ -1,0 +1,116 @@
+// The state that postings change.
+ghost use mathlib.Core.Path.{_≡_};
+ghost use Prim.Native.Nat.{_<_};
+ghost use Rattle.ledger.specs.State.{noTotals, noMarks, nobody, withAccount};
+use tariff::amounts::Dth;
+use tariff::amounts::Mcf;
+use tariff::amounts::Mills;
+use tariff::amounts::Quantity;
+use tariff::amounts::Units;
+use tariff::bill::Totals;
+use tariff::dates::Date;
+use tariff::steps::Step;
+use tariff::terms::Capacity;
+use tariff::terms::Terms;
+
+pub struct Marks {
+    // DELIVER was accepted today, MEASURE and USAGE this month.
+    pub delivered: bool,
+    pub measured: bool,
+    pub metered: bool,
+    // What today's delivery broke.
+    pub v1: bool,
+    pub v2: bool,
+    // A fall of the step excuses a bank above its limit until it fits again.
+    pub excused: bool,
+}
+
+pub struct Account {
+    pub opened: bool,
+    pub bank: Units,
+    pub mdq: Dth,
+    pub step: Step,
+    pub capacity: Capacity,
+    pub month: Totals,
+    pub carry: Quantity,
+    pub owed: Mills,
+    pub violation_days: u64,
+    pub marks: Marks,
+}
+
+pub struct Ledger {
+    pub begun: bool,
+    // Something was accepted today.
+    pub touched: bool,
+    pub date: Date,
+    pub terms: Terms,
+    pub accounts: [Account; 16],
+}
+
+pub fn no_totals() -> Totals
+    ensures { λ r. ⌜ r ≡ noTotals ⌝ }
+{
+    Totals {
+        net: Units(0),
+        sales: Quantity(0),
+        purchases: Quantity(0),
+        cash_ins: Quantity(0),
+        cash_outs: Quantity(0),
+        usage: Mcf(0),
+    }
+}
+
+pub fn no_marks() -> Marks
+    ensures { λ r. ⌜ r ≡ noMarks ⌝ }
+{
+    Marks {
+        delivered: false,
+        measured: false,
+        metered: false,
+        v1: false,
+        v2: false,
+        excused: false,
+    }
+}
+
+pub fn nobody() -> Account
+    ensures { λ r. ⌜ r ≡ nobody ⌝ }
+{
+    let month = no_totals();
+    let marks = no_marks();
+    let step = Step {
+        k: 0,
+        pending: 0,
+        over: 0,
+        under: 0,
+    };
+    let capacity = Capacity {
+        mddq: Dth(0),
+        bcq: Dth(0),
+    };
+    Account {
+        opened: false,
+        bank: Units(0),
+        mdq: Dth(0),
+        step,
+        capacity,
+        month,
+        carry: Quantity(0),
+        owed: Mills(0),
+        violation_days: 0,
+        marks,
+    }
+}
+
+impl Ledger {
+    // With an account anew, after something was accepted.
+    pub fn with_account(self, i: usize, a: Account) -> Ledger
+        requires { ⌜ i < 16 ⌝ }
+        ensures { λ r. ⌜ r ≡ withAccount self i a ⌝ }
+    {
+        let mut next = self;
+        next.accounts[i] = a;
+        next.touched = true;
+        next
+    }
+}
