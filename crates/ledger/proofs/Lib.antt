@@ -5,3 +5,10 @@ pub mod KindCases
 pub mod Admitted
 pub mod Closable
 pub mod Banks
+pub mod Sums
+pub mod Moves
+pub mod ClosedAccounts
+pub mod OneStep
+pub mod StepKinds
+pub mod StepClosing
+pub mod Histories

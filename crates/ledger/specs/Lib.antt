@@ -13,3 +13,4 @@ pub mod Usage
 pub mod Closing
 pub mod Posting
 pub mod Panel
+pub mod History

@@ -19,6 +19,7 @@ ghost use mathlib.Core.Path.{_≡_};
 ghost use Rattle.ledger.specs.State.{fresh};
 ghost use Rattle.ledger.specs.Posting.{posted};
 ghost use Rattle.ledger.specs.Panel.{panelOf};
+ghost use Rattle.ledger.specs.History.{BanksAddUp, PanelAddsUp, DebtsAddUp, DaysAddUp, StrikingChangesNothing};
 use crate::answers::Posted;
 use crate::answers::refused;
 use crate::entries::decode;
@@ -91,3 +92,12 @@ pub fn panel(ledger: Ledger) -> Panel
         figure: Units(0),
     }
 }
+
+// Demand 3, for every list of postings to a fresh ledger: specs/History.antt has each claim in words.
+pub fn every_history()
+    ensures banks { λ r. ⌜ BanksAddUp ⌝ }
+    ensures panel { λ r. ⌜ PanelAddsUp ⌝ }
+    ensures debts { λ r. ⌜ DebtsAddUp ⌝ }
+    ensures violation_days { λ r. ⌜ DaysAddUp ⌝ }
+    ensures struck { λ r. ⌜ StrikingChangesNothing ⌝ }
+{}

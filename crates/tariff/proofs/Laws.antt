@@ -1,8 +1,11 @@
 -- The laws of the amounts that the layers above go by: what each definition makes of the numbers.
 use Prim.Native.Nat.{ℕ, zero, suc, _+_, _≤_}
 use mathlib.Core.Path.{_≡_, refl, sym, _∙_}
-use mathlib.Core.Bool.{Bool, true}
+use mathlib.Core.Bool.{Bool, true, _&&_}
 use native.Mathlib.Omega.{arith}
+use lib.Dec.{leb}
+use lib.Signed.{leZ}
+use borrow.Author.Tests.{le-leb}
 use lib.IntN.{ℤ, pos, negsuc, _+ℤ_, _-ℤ_, negℤ, +ℤ-idl, +ℤ-idr}
 use Rattle.tariff.specs.Amounts.{nothing, amountOf, sum, more, less, opposite, positivePart, inward, outward, within, size, together, noMoney, added, withinMills, sizeMills}
 use Rattle.tariff.specs.declared.amounts.Units.{Units}
@@ -55,14 +58,6 @@ pub in-and-out : (a : Units) → a .0 ≡ pos (inward a .0) -ℤ pos (outward a 
 unfolding inward outward opposite
 in-and-out a = parts (a .0)
 
-pub no-inward : inward nothing .0 ≡ 0
-unfolding inward nothing positivePart
-no-inward = refl
-
-pub no-outward : outward nothing .0 ≡ 0
-unfolding outward inward opposite nothing positivePart
-no-outward = refl
-
 -- ---- sizes
 
 pub size-amount : (q : Quantity) → size (amountOf q) ≡ q .0
@@ -76,3 +71,28 @@ within-size low high a h l = size-between low high (a .0) h l
 pub within-mills-size : (n : ℕ) (m : Mills) → withinMills n m ≡ true → sizeMills m ≤ n
 unfolding withinMills sizeMills
 within-mills-size n m h = size-between n n (m .0) h (omega arith)
+
+-- ---- nothing
+
+pub inward-zero : (a : Units) → a .0 ≡ pos 0 → inward a .0 ≡ 0
+unfolding inward positivePart
+inward-zero a h = rw h
+
+pub outward-zero : (a : Units) → a .0 ≡ pos 0 → outward a .0 ≡ 0
+unfolding outward inward opposite positivePart
+outward-zero a h = rw h
+
+leb-zero : (n : ℕ) → leb 0 n ≡ true
+leb-zero n = le-leb 0 n (omega arith)
+
+zero-between : (low high : ℕ) → leZ (negℤ (pos low)) (pos 0) && leZ (pos 0) (pos high) ≡ true
+zero-between zero high = leb-zero high
+zero-between (suc low) high = leb-zero high
+
+pub within-zero : (low high : ℕ) (a : Units) → a .0 ≡ pos 0 → within low high a ≡ true
+unfolding within
+within-zero low high a h = rw h (zero-between low high)
+
+pub within-mills-zero : (n : ℕ) (m : Mills) → m .0 ≡ pos 0 → withinMills n m ≡ true
+unfolding withinMills
+within-mills-zero n m h = rw h (zero-between n n)

@@ -1,0 +1,128 @@
+-- What a closing makes of an account is what it reports of it.
+use Prim.Native.Nat.{ℕ, _+_}
+use mathlib.Core.Path.{_≡_, refl, sym, ap, _∙_}
+use mathlib.Core.Bool.{Bool, true, false, cond, false≢true}
+use mathlib.Core.List.{map}
+use native.Mathlib.Omega.{arith}
+use lib.Dec.{eqb}
+use lib.IntN.{ℤ, pos, negℤ, _+ℤ_, _-ℤ_, +ℤ-idr, +ℤ-assoc}
+use lib.ListN.{getD, List·getD-map}
+use Rattle.tariff.specs.Amounts.{inward, outward, sum, less, added}
+use Rattle.tariff.specs.declared.amounts.Units.{Units}
+use Rattle.tariff.specs.declared.terms.Terms.{Terms}
+use Rattle.tariff.proofs.Laws.{sum-value, less-value, added-value, in-and-out, inward-zero, outward-zero}
+use Rattle.ledger.specs.Entries.{pricesOf}
+use Rattle.ledger.specs.State.{nobody, accountAt}
+use Rattle.ledger.specs.Answers.{quiet}
+use Rattle.ledger.specs.Closing.{violationsOf, cashAt, dayEnd, dayClosed, forfeitAt, billAt, monthEnd, monthClosed, closedDay, closedMonth, notOpen, closedAccount, accountClosed, reportOf, closed}
+use Rattle.ledger.specs.Panel.{openBank}
+use Rattle.ledger.specs.declared.state.Account.{Account}
+use Rattle.ledger.specs.declared.state.Ledger.{Ledger}
+use Rattle.ledger.specs.declared.entries.Entry.{Entry}
+use Rattle.ledger.specs.declared.answers.Report.{Report}
+use Rattle.ledger.specs.declared.closing.Closed.{Closed}
+
+abbrev pub openOwed : Account → ℤ
+openOwed a = cond (a .opened) (a .owed .0) (pos 0)
+
+abbrev pub openDays : Account → ℕ
+openDays a = cond (a .opened) (a .«violation_days») 0
+
+-- what a report adds to a bank
+abbrev pub reportMoves : Report → ℤ
+reportMoves r = pos (inward (r .cash) .0) -ℤ pos (outward (r .cash) .0) -ℤ pos (r .forfeit .0)
+
+pub record Accounted (a : Account) (c : Closed) : Type 0 where
+  pub bank : openBank (c .account) ≡ openBank a +ℤ reportMoves (c .report)
+  pub owed : openOwed (c .account) ≡ openOwed a +ℤ c .report .bill .0
+  pub days : openDays (c .account) ≡ openDays a + cond (eqb (c .report .mask) 0) 0 1
+
+pub chosen : {A : Type 0} (t : Bool) (x y : A) → t ≡ true → cond t x y ≡ x
+chosen true x y h = refl
+chosen false x y h = absurd (false≢true h)
+
+module _ (t : Terms) (e : Entry) (a : Account) where
+  of-not-open : a .opened ≡ false → Accounted a (notOpen a)
+  unfolding notOpen quiet openBank
+  of-not-open o =
+      record {
+        bank = rw (inward-zero (quiet .cash) refl, outward-zero (quiet .cash) refl) (sym (+ℤ-idr (openBank a)));
+        owed = sym (+ℤ-idr (openOwed a));
+        days = omega arith;
+      }
+
+  abbrev cash : Units
+  cash = cashAt (e .date) a
+
+  of-day : a .opened ≡ true → Accounted a (closedDay (e .date) a)
+  unfolding closedDay dayClosed dayEnd openBank
+  of-day o =
+      record {
+        bank =
+            chosen (a .opened) (sum (a .bank) cash .0) (pos 0) o
+            ∙ sum-value (a .bank) cash
+            ∙ ap (λ (z : ℤ). a .bank .0 +ℤ z) (in-and-out cash ∙ sym (+ℤ-idr (pos (inward cash .0) -ℤ pos (outward cash .0))))
+            ∙ ap (λ (z : ℤ). z +ℤ (pos (inward cash .0) -ℤ pos (outward cash .0) -ℤ pos 0)) (sym (chosen (a .opened) (a .bank .0) (pos 0) o));
+        owed = sym (+ℤ-idr (openOwed a));
+        days =
+            chosen (a .opened) (a .«violation_days» + cond (eqb (violationsOf (e .date) a) 0) 0 1) 0 o
+            ∙ ap (λ (z : ℕ). z + cond (eqb (violationsOf (e .date) a) 0) 0 1) (sym (chosen (a .opened) (a .«violation_days») 0 o));
+      }
+
+  abbrev c : Account
+  c = dayClosed (e .date) a
+
+  abbrev forfeit : ℤ
+  forfeit = pos (forfeitAt (e .date) t c .0)
+
+  of-month : a .opened ≡ true → Accounted a (closedMonth (e .date) t (pricesOf e) a)
+  unfolding closedMonth monthClosed monthEnd dayClosed dayEnd openBank
+  of-month o =
+      record {
+        bank =
+            chosen (a .opened) (less (sum (a .bank) cash) (forfeitAt (e .date) t c) .0) (pos 0) o
+            ∙ less-value (sum (a .bank) cash) (forfeitAt (e .date) t c)
+            ∙ ap (λ (z : ℤ). z -ℤ forfeit) (sum-value (a .bank) cash ∙ ap (λ (z : ℤ). a .bank .0 +ℤ z) (in-and-out cash))
+            ∙ +ℤ-assoc (a .bank .0) (pos (inward cash .0) -ℤ pos (outward cash .0)) (negℤ forfeit)
+            ∙ ap (λ (z : ℤ). z +ℤ (pos (inward cash .0) -ℤ pos (outward cash .0) -ℤ forfeit)) (sym (chosen (a .opened) (a .bank .0) (pos 0) o));
+        owed =
+            chosen (a .opened) (added (a .owed) (billAt t (pricesOf e) c) .0) (pos 0) o
+            ∙ added-value (a .owed) (billAt t (pricesOf e) c)
+            ∙ ap (λ (z : ℤ). z +ℤ billAt t (pricesOf e) c .0) (sym (chosen (a .opened) (a .owed .0) (pos 0) o));
+        days =
+            chosen (a .opened) (a .«violation_days» + cond (eqb (violationsOf (e .date) a) 0) 0 1) 0 o
+            ∙ ap (λ (z : ℕ). z + cond (eqb (violationsOf (e .date) a) 0) 0 1) (sym (chosen (a .opened) (a .«violation_days») 0 o));
+      }
+
+  pub accounted : Accounted a (closedAccount t e a)
+  unfolding closedAccount
+  accounted = go (a .opened) (eqb (e .kind) 9) refl
+    where
+      go : (o k : Bool) → a .opened ≡ o → Accounted a (cond o (cond k (closedMonth (e .date) t (pricesOf e) a) (closedDay (e .date) a)) (notOpen a))
+      go true true o = of-month o
+      go true false o = of-day o
+      go false k o = of-not-open o
+
+-- ---- an account of the closed ledger, and what was reported of it
+
+module _ (t : Terms) (e : Entry) where
+  nobody-closed : accountClosed t e nobody ≡ nobody
+  unfolding accountClosed closedAccount notOpen nobody
+  nobody-closed = refl
+
+  nobody-reported : reportOf t e nobody ≡ quiet
+  unfolding reportOf closedAccount notOpen nobody
+  nobody-reported = refl
+
+module _ (l : Ledger) (e : Entry) (i : ℕ) where
+  pub account-closed : accountAt (closed l e .ledger) i ≡ accountClosed (l .terms) e (accountAt l i)
+  unfolding accountAt closed
+  account-closed =
+      ap (λ (d : Account). getD (map (accountClosed (l .terms) e) (l .accounts)) i d) (sym (nobody-closed (l .terms) e))
+      ∙ List·getD-map (accountClosed (l .terms) e) (l .accounts) i nobody
+
+  pub account-reported : getD (closed l e .answer .reports) i quiet ≡ reportOf (l .terms) e (accountAt l i)
+  unfolding accountAt closed
+  account-reported =
+      ap (λ (d : Report). getD (map (reportOf (l .terms) e) (l .accounts)) i d) (sym (nobody-reported (l .terms) e))
+      ∙ List·getD-map (reportOf (l .terms) e) (l .accounts) i nobody
