@@ -14,3 +14,4 @@ pub mod Closing
 pub mod Posting
 pub mod Panel
 pub mod History
+pub mod MarkedCases

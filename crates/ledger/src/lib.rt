@@ -19,6 +19,7 @@ ghost use mathlib.Core.Path.{_≡_};
 ghost use Rattle.ledger.specs.State.{fresh};
 ghost use Rattle.ledger.specs.Posting.{posted};
 ghost use Rattle.ledger.specs.Panel.{panelOf};
+ghost use Rattle.ledger.specs.MarkedCases.{MarkedCases};
 ghost use Rattle.ledger.specs.History.{BanksAddUp, PanelAddsUp, DebtsAddUp, DaysAddUp, StrikingChangesNothing};
 use crate::answers::Posted;
 use crate::answers::refused;
@@ -100,4 +101,9 @@ pub fn every_history()
     ensures debts { λ r. ⌜ DebtsAddUp ⌝ }
     ensures violation_days { λ r. ⌜ DaysAddUp ⌝ }
     ensures struck { λ r. ⌜ StrikingChangesNothing ⌝ }
+{}
+
+// Document 01's marked cases hold of postings to a fresh ledger, as one group.
+pub fn marked_cases()
+    ensures { λ r. ⌜ MarkedCases ⌝ }
 {}

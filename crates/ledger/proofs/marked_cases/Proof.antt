@@ -1,0 +1,53 @@
+-- Each case is computed, so every definition on the way is opened.
+use mathlib.Core.Path.{refl}
+use Rattle.tariff.specs.Amounts.{nothing, amountOf, sum, more, less, gap, opposite, positivePart, inward, outward, above, below, within, together, percent, noMoney, charged, credited, added, withinMills}
+use Rattle.tariff.specs.Months.{january, february, march, april, june, august, november, december, sameMonth, gasMonth, winter, minimum, maximum, mmbq, withdrawalMaximum, withdrawalMinimum}
+use Rattle.tariff.specs.Dates.{divides, leap, lengths, monthLength, real, sameDate, isOn, firstOfGasYear, lastOfMonth, lastDate, dayAfter, total, dayNumber, weekday, businessDay, measurementDay, onMeasurementDay}
+use Rattle.tariff.specs.Terms.{termsInRange, mddqOf, bcqOf, capacityOf}
+use Rattle.tariff.specs.Enrol.{staysOnFbs, openingTooHigh}
+use Rattle.tariff.specs.Delivery.{retained, daysOfInjection, breaksV1, shareOf, breaksV2}
+use Rattle.tariff.specs.Limits.{aboveMaximum, belowMinimum}
+use Rattle.tariff.specs.Steps.{stepOf, firstStep, isOver, isUnder, crosses, measured, settledStep, falls}
+use Rattle.tariff.specs.Closing.{breaksV3, withdrawalLimit, breaksV4, breaksV5, breaksV6, breaksV7, breaksV8, cashOf, endsExcuse, excessOver, carryOf, forfeitOf, maskOf}
+use Rattle.tariff.specs.Bill.{pricesInRange, cashInCharge, cashOutCredit, atInventoryCost, billOf}
+use Rattle.ledger.specs.Checks.{verdict}
+use Rattle.ledger.specs.Entries.{byteAt, wordAt, entryOf, usesA, usesB, largestFlag, wordsUsed, termsOf, pricesOf, processOnly, wishes, companySells, accountTooHigh, unusedSet, someUnits, wordsInRange, lettersDiffer, entryChecks, entryNumber}
+use Rattle.ledger.specs.State.{noTotals, noMarks, nobody, fresh, accountAt, withBank, withMonth, withMarks, withMeasure, withCapacity, withAccount}
+use Rattle.ledger.specs.Ranges.{totalsInRange, stepInRange, accountInRange, everyAccount, inRange}
+use Rattle.ledger.specs.Answers.{quiet, plain, refused, settle}
+use Rattle.ledger.specs.Terms.{reworked, termsNext, termsChecks, postTerms}
+use Rattle.ledger.specs.Enrol.{newAccount, enrolled, enrolChecks, postEnrol}
+use Rattle.ledger.specs.Deliver.{withNet, deliveryMarks, delivered, amountUnder, afterDelivery, deliverChecks, postDeliver}
+use Rattle.ledger.specs.Transfer.{giver, receiver, transferChecks, postTransfer}
+use Rattle.ledger.specs.Trade.{withTrade, traded, afterTrade, pastLimit, tradeChecks, postTrade}
+use Rattle.ledger.specs.Measure.{measureMark, remeasured, afterMeasure, measureChecks, postMeasure}
+use Rattle.ledger.specs.Usage.{withUsage, usageMark, metered, afterUsage, usageChecks, postUsage}
+use Rattle.ledger.specs.Closing.{limitOf, violationsOf, cashAt, withCash, dayMarks, dayEnd, dayClosed, billAt, nextCapacity, forfeitAt, monthMarks, monthEnd, monthClosed, closedDay, closedMonth, notOpen, closedAccount, accountClosed, reportOf, wrongClosing, complete, staysInRange, closingChecks, closed, postClosing}
+use Rattle.ledger.specs.Posting.{standingChecks, admission, postKind, postEntry, posted}
+use Rattle.ledger.specs.Panel.{openBank}
+use Rattle.ledger.specs.History.{run, bankOf}
+use Rattle.ledger.specs.MarkedCases.{MarkedCases}
+use Rattle.ledger.proofs.marked_cases.Statement.{statement}
+use Rattle.ledger.proofs.marked_cases.Tie as tie
+
+all-nine : MarkedCases
+unfolding nothing amountOf sum more less gap opposite positivePart inward outward above below within together percent noMoney charged credited added withinMills january february march april june august november december sameMonth gasMonth winter minimum maximum mmbq withdrawalMaximum withdrawalMinimum divides leap lengths monthLength real sameDate isOn firstOfGasYear lastOfMonth lastDate dayAfter total dayNumber weekday businessDay measurementDay onMeasurementDay termsInRange mddqOf bcqOf capacityOf staysOnFbs openingTooHigh retained daysOfInjection breaksV1 shareOf breaksV2 aboveMaximum belowMinimum stepOf firstStep isOver isUnder crosses measured settledStep falls breaksV3 withdrawalLimit breaksV4 breaksV5 breaksV6 breaksV7 breaksV8 cashOf endsExcuse excessOver carryOf forfeitOf maskOf pricesInRange cashInCharge cashOutCredit atInventoryCost billOf verdict byteAt wordAt entryOf usesA usesB largestFlag wordsUsed termsOf pricesOf processOnly wishes companySells accountTooHigh unusedSet someUnits wordsInRange lettersDiffer entryChecks entryNumber noTotals noMarks nobody fresh accountAt withBank withMonth withMarks withMeasure withCapacity withAccount totalsInRange stepInRange accountInRange everyAccount inRange quiet plain refused settle reworked termsNext termsChecks postTerms newAccount enrolled enrolChecks postEnrol withNet deliveryMarks delivered amountUnder afterDelivery deliverChecks postDeliver giver receiver transferChecks postTransfer withTrade traded afterTrade pastLimit tradeChecks postTrade measureMark remeasured afterMeasure measureChecks postMeasure withUsage usageMark metered afterUsage usageChecks postUsage limitOf violationsOf cashAt withCash dayMarks dayEnd dayClosed billAt nextCapacity forfeitAt monthMarks monthEnd monthClosed closedDay closedMonth notOpen closedAccount accountClosed reportOf wrongClosing complete staysInRange closingChecks closed postClosing standingChecks admission postKind postEntry posted openBank run bankOf
+all-nine =
+    record {
+      header = (refl, refl, refl);
+      case1 = (refl, refl, refl, refl);
+      case2 = (refl, refl, refl, refl);
+      case3 = (refl, refl);
+      case4 = (refl, refl, refl, refl);
+      case5 = (refl, refl, refl, refl);
+      case6 = (refl, refl, refl, refl);
+      case7 = (refl, refl);
+      case8 = (refl, refl);
+      case9 = (refl, refl);
+    }
+
+returns : tie.Need-returns
+returns c = all-nine
+
+pub marked-cases-spec : {M : Type 1} → statement M
+marked-cases-spec = tie.close (tie.spec returns)
