@@ -3,7 +3,7 @@ use Prim.Native.Nat.{ℕ, _+_, _*_, _%_}
 use mathlib.Core.Bool.{Bool, true, false, cond, not, _&&_, _||_}
 use mathlib.Core.List.{List, [], _∷_}
 use lib.Dec.{eqb, leb, ltb}
-use lib.ListN.{getD}
+use lib.ListN.{getD, length}
 use Rattle.tariff.specs.Dates.{real}
 use Rattle.tariff.specs.Terms.{termsInRange}
 use Rattle.tariff.specs.Bill.{pricesInRange}
@@ -139,3 +139,7 @@ entryChecks e =
 -- the number of an entry of 32 bytes, 0 or 2 to 7
 unfoldable pub entryNumber : Entry → ℕ
 entryNumber e = verdict (entryChecks e)
+
+-- the number of any bytes, 0 or 1 to 7: "1 entry not 32 bytes"
+unfoldable pub formNumber : List ℕ → ℕ
+formNumber bytes = cond (eqb (length bytes) 32) (entryNumber (entryOf bytes)) 1

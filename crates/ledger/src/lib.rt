@@ -1,35 +1,41 @@
 // The bank ledger: postings of nine kinds, and the panel.
-pub mod answers;
+mod answers;
 mod checks;
 mod closing;
 mod deliver;
 mod enrol;
-pub mod entries;
+mod entries;
 mod measure;
-pub mod panels;
+mod panels;
 mod postings;
 mod ranges;
-pub mod state;
+mod state;
 mod terms;
 mod trade;
 mod transfer;
 mod usage;
 
+// The types that cross the boundary; the functions that do stand below, and none of them requires anything.
+pub use answers::Answer;
+pub use answers::Posted;
+pub use answers::Report;
+pub use panels::Panel;
+pub use state::Account;
+pub use state::Ledger;
+pub use state::Marks;
 ghost use mathlib.Core.Path.{_≡_};
+ghost use Rattle.ledger.specs.Entries.{formNumber};
 ghost use Rattle.ledger.specs.State.{fresh};
 ghost use Rattle.ledger.specs.Posting.{posted};
 ghost use Rattle.ledger.specs.Panel.{panelOf};
 ghost use Rattle.ledger.specs.MarkedCases.{MarkedCases};
 ghost use Rattle.ledger.specs.History.{BanksAddUp, PanelAddsUp, DebtsAddUp, DaysAddUp, StrikingChangesNothing};
-use crate::answers::Posted;
 use crate::answers::refused;
 use crate::entries::decode;
-use crate::panels::Panel;
 use crate::panels::open_banks;
 use crate::postings::admission;
 use crate::postings::post_kind;
 use crate::ranges::in_range;
-use crate::state::Ledger;
 use crate::state::nobody;
 use tariff::amounts::Dth;
 use tariff::amounts::Units;
@@ -63,6 +69,16 @@ pub fn fresh() -> Ledger
         terms,
         accounts,
     }
+}
+
+// What is wrong with bytes by themselves: the first of 1 to 7 that applies, or 0.
+pub fn entry_number(entry: &[u8]) -> u64
+    ensures { λ r. ⌜ r ≡ formNumber (now (entry .entry)) ⌝ }
+{
+    if entry.len() != 32 {
+        return 1;
+    }
+    decode(entry).number()
 }
 
 // Any bytes, to any ledger.

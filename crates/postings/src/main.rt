@@ -1,10 +1,10 @@
 // Posts a list from standard input and prints every answer, then the banks, what is owed, the violation days, the date and the panel.
 // The input is a sequence of records: 'P', a length byte and that many bytes are a posting; 'K', an account, a field and a signed
 // number of 8 bytes, little-endian, overwrite one number of the ledger, as a hostile caller might.
-use ledger::answers::Answer;
-use ledger::answers::Report;
-use ledger::state::Account;
-use ledger::state::Ledger;
+use ledger::Account;
+use ledger::Answer;
+use ledger::Ledger;
+use ledger::Report;
 use libc::STDIN_FILENO;
 use libc::STDOUT_FILENO;
 use tariff::amounts::Dth;
