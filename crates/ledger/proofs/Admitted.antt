@@ -1,16 +1,16 @@
 -- What an entry has that passed 1 to 7 and 20 to 22, kind by kind.
 use Prim.Native.Nat.{ℕ, _+_, _≤_, _<_}
 use mathlib.Core.Path.{_≡_, refl, sym, _∙_}
-use mathlib.Core.Bool.{Bool, true, false, cond, not, _&&_, _||_}
+use mathlib.Core.Bool.{Bool, true, false, cond, not, _&&_}
 use native.Mathlib.Omega.{arith}
 use lib.Dec.{leb, eqb}
 use borrow.Author.Tests.{leb-true, leb-false, le-leb, eqb-false, eq-eqb, ne-eqb, not-false}
-use Rattle.tariff.specs.Dates.{real, sameDate}
+use Rattle.tariff.specs.Dates.{real}
 use Rattle.tariff.specs.Terms.{termsInRange}
 use Rattle.tariff.specs.Bill.{pricesInRange}
 use Rattle.tariff.proofs.Bools.{and-left, and-right, or-left, or-right, parts}
 use Rattle.ledger.specs.Checks.{verdict}
-use Rattle.ledger.specs.Entries.{usesA, usesB, termsOf, pricesOf, accountTooHigh, unusedSet, someUnits, wordsInRange, lettersDiffer, entryChecks, entryNumber}
+use Rattle.ledger.specs.Entries.{usesA, usesB, termsOf, pricesOf, accountTooHigh, someUnits, wordsInRange, lettersDiffer, entryChecks, entryNumber}
 use Rattle.ledger.specs.Ranges.{inRange}
 use Rattle.ledger.specs.Posting.{standingChecks, admission}
 use Rattle.ledger.specs.declared.state.Ledger.{Ledger}

@@ -1,12 +1,12 @@
 -- What a range check that passed tells, as bounds on natural numbers.
 use Prim.Native.Nat.{ℕ, _≤_, _<_}
-use mathlib.Core.Path.{_≡_, refl, sym, _∙_}
+use mathlib.Core.Path.{_≡_}
 use mathlib.Core.Bool.{Bool, true, false, not, _&&_, _||_, true≢false}
 use native.Mathlib.Omega.{arith}
 use lib.Dec.{leb}
-use lib.ListN.{length, getD}
+use lib.ListN.{length}
 use borrow.Author.Tests.{leb-true}
-use Rattle.tariff.specs.Amounts.{size, within, sizeMills, withinMills}
+use Rattle.tariff.specs.Amounts.{size, sizeMills}
 use Rattle.tariff.specs.Dates.{real}
 use Rattle.tariff.specs.Terms.{termsInRange}
 use Rattle.tariff.specs.declared.bill.Totals.{Totals}

@@ -1,7 +1,7 @@
 -- What the month's part of a closing may count on, of the account that the day's part left.
-use Prim.Native.Nat.{ℕ, _+_, _≤_}
+use Prim.Native.Nat.{ℕ, _≤_}
 use mathlib.Core.Path.{_≡_}
-use mathlib.Core.Bool.{Bool, true}
+use mathlib.Core.Bool.{true}
 use native.Mathlib.Omega.{arith}
 use Rattle.tariff.specs.Amounts.{size, sizeMills, inward, outward}
 use Rattle.tariff.specs.declared.amounts.Units.{Units}
@@ -11,7 +11,7 @@ use Rattle.tariff.proofs.Sizes.{size-plus, inward-le, outward-le}
 use Rattle.ledger.specs.Ranges.{accountInRange}
 use Rattle.ledger.specs.Closing.{withCash, dayEnd}
 use Rattle.ledger.specs.declared.state.Account.{Account}
-use Rattle.ledger.proofs.Bounded.{Bounded, bounded, Stepped, stepped}
+use Rattle.ledger.proofs.Bounded.{bounded, stepped}
 
 pub record Closable (a : Account) : Type 0 where
   pub bank : size (a .bank) ≤ 300000000000

@@ -1,11 +1,11 @@
 -- Every list of postings, from one posting at a time.
-use Prim.Native.Nat.{ℕ, zero, suc, _+_, _≤_, _<_}
-use mathlib.Core.Path.{_≡_, refl, sym, ap, _∙_, subst}
-use mathlib.Core.Bool.{Bool, true, false, cond, not, _&&_, true≢false, false≢true}
+use Prim.Native.Nat.{ℕ, _+_, _≤_}
+use mathlib.Core.Path.{_≡_, refl, sym, ap, _∙_}
+use mathlib.Core.Bool.{Bool, true, false, cond, not, _&&_, false≢true}
 use mathlib.Core.List.{List, [], _∷_}
 use native.Mathlib.Omega.{arith}
 use lib.Dec.{eqb}
-use lib.IntN.{ℤ, pos, _+ℤ_, _-ℤ_, +ℤ-idr, +ℤ-idl, +ℤ-assoc}
+use lib.IntN.{ℤ, pos, _+ℤ_, +ℤ-idr, +ℤ-idl, +ℤ-assoc}
 use lib.ListN.{length, getD}
 use borrow.Author.Tests.{eqb-true, eqb-false, not-true}
 use Rattle.tariff.proofs.Bools.{either, and-right}
@@ -14,24 +14,23 @@ use Rattle.ledger.specs.Checks.{verdict}
 use Rattle.ledger.specs.Entries.{entryOf}
 use Rattle.ledger.specs.State.{noTotals, nobody, fresh, accountAt}
 use Rattle.ledger.specs.Ranges.{totalsInRange, stepInRange, accountInRange, everyAccount, inRange}
-use Rattle.ledger.specs.Answers.{refused, settle}
-use Rattle.ledger.specs.Terms.{postTerms, termsChecks, termsNext}
-use Rattle.ledger.specs.Enrol.{postEnrol, enrolChecks, enrolled}
-use Rattle.ledger.specs.Deliver.{postDeliver, deliverChecks, afterDelivery}
-use Rattle.ledger.specs.Transfer.{postTransfer, transferChecks, giver, receiver}
-use Rattle.ledger.specs.Trade.{postTrade, tradeChecks, afterTrade}
-use Rattle.ledger.specs.Measure.{postMeasure, measureChecks, afterMeasure}
-use Rattle.ledger.specs.Usage.{postUsage, usageChecks, afterUsage}
+use Rattle.ledger.specs.Answers.{refused}
+use Rattle.ledger.specs.Terms.{postTerms}
+use Rattle.ledger.specs.Enrol.{postEnrol}
+use Rattle.ledger.specs.Deliver.{postDeliver}
+use Rattle.ledger.specs.Transfer.{postTransfer}
+use Rattle.ledger.specs.Trade.{postTrade}
+use Rattle.ledger.specs.Measure.{postMeasure}
+use Rattle.ledger.specs.Usage.{postUsage}
 use Rattle.ledger.specs.Closing.{postClosing, closingChecks, closed}
 use Rattle.ledger.specs.Posting.{admission, postKind, postEntry, posted}
 use Rattle.ledger.specs.Panel.{openBank, openBanks, panelOf}
-use Rattle.ledger.specs.History.{Line, history, run, isAccepted, accepted, opening, deliveries, rateAfter, sale, purchase, transferIn, transferOut, cashIn, cashOut, forfeited, billed, violated, sumOf, countOf, bankSum, overFirst, overAll, figureSum, bankOf, owedOf, daysOf, remaining, bytesOf, BanksAddUp, PanelAddsUp, DebtsAddUp, DaysAddUp, StrikingChangesNothing}
+use Rattle.ledger.specs.History.{Line, history, run, isAccepted, accepted, opening, deliveries, rateAfter, sale, purchase, transferIn, transferOut, cashIn, cashOut, forfeited, billed, violated, sumOf, countOf, overFirst, overAll, figureSum, bankOf, owedOf, daysOf, remaining, bytesOf, BanksAddUp, PanelAddsUp, DebtsAddUp, DaysAddUp, StrikingChangesNothing}
 use Rattle.ledger.specs.declared.state.Account.{Account}
 use Rattle.ledger.specs.declared.state.Ledger.{Ledger}
 use Rattle.ledger.specs.declared.entries.Entry.{Entry}
-use Rattle.ledger.specs.declared.answers.Posted.{Posted}
 use Rattle.ledger.proofs.Admitted.{is-kind, next-up}
-use Rattle.ledger.proofs.Sums.{chain, chain-balanced, over-cong, over-add, over-chain, over-zero, banks-over}
+use Rattle.ledger.proofs.Sums.{chain, chain-balanced, over-cong, over-add, over-chain, banks-over}
 use Rattle.ledger.proofs.Moves.{line, moved, total, total-next, total-none, total-is, total-sum, same}
 use Rattle.ledger.proofs.OneStep.{Rated, Step, step-refused, step-settle}
 use Rattle.ledger.proofs.StepKinds.{takes-terms, takes-enrol, takes-deliver, takes-transfer, takes-trade, takes-measure, takes-usage}

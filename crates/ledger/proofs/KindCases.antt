@@ -1,9 +1,8 @@
 -- What depends on the kind, at a kind that is known.
 use Prim.Native.Nat.{ℕ}
-use mathlib.Core.Path.{_≡_, refl, sym, ap, _∙_}
-use mathlib.Core.Bool.{Bool, true, false, cond, _&&_}
+use mathlib.Core.Path.{_≡_, ap}
+use mathlib.Core.Bool.{Bool, true, cond, _&&_}
 use lib.Dec.{leb, eqb}
-use borrow.Author.Tests.{ne-eqb}
 use Rattle.tariff.specs.Terms.{termsInRange}
 use Rattle.tariff.specs.Bill.{pricesInRange}
 use Rattle.ledger.specs.Entries.{termsOf, pricesOf, someUnits, wordsInRange}

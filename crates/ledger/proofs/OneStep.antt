@@ -1,26 +1,25 @@
 -- What one posting does, whatever it answers.
-use Prim.Native.Nat.{ℕ, zero, suc, _+_, _≤_, _<_}
-use mathlib.Core.Path.{_≡_, refl, sym, ap, _∙_, subst}
+use Prim.Native.Nat.{ℕ, _+_, _<_}
+use mathlib.Core.Path.{_≡_, refl, sym, ap, _∙_}
 use mathlib.Core.Bool.{Bool, true, false, cond, not, _&&_, _||_, true≢false, false≢true}
-use mathlib.Core.List.{List, [], _∷_, map}
+use mathlib.Core.List.{List}
 use native.Mathlib.Omega.{arith}
 use lib.Dec.{eqb}
-use lib.IntN.{ℤ, pos, negℤ, _+ℤ_, _-ℤ_, +ℤ-idr, +ℤ-idl}
+use lib.IntN.{ℤ, pos, _+ℤ_, +ℤ-idr}
 use lib.ListN.{length, getD, set, length-set}
 use lib.Seq.{getD-set-same, getD-set-other}
 use borrow.Author.Tests.{eqb-true, eqb-false}
 use Rattle.tariff.specs.Dates.{real}
 use Rattle.tariff.specs.Terms.{termsInRange}
-use Rattle.tariff.proofs.Bools.{and-left, and-right, either}
+use Rattle.tariff.proofs.Bools.{and-left, and-right}
 use Rattle.ledger.specs.Entries.{entryOf}
 use Rattle.ledger.specs.State.{nobody, accountAt, withAccount}
 use Rattle.ledger.specs.Ranges.{accountInRange, everyAccount, inRange}
 use Rattle.ledger.specs.Answers.{plain, refused, settle}
 use Rattle.ledger.specs.Panel.{openBank}
-use Rattle.ledger.specs.History.{rateAfter, billed, violated, transferIn, transferOut, overFirst, overAll, bankOf, owedOf, daysOf}
+use Rattle.ledger.specs.History.{rateAfter, billed, violated, transferIn, transferOut, overFirst, bankOf, owedOf, daysOf}
 use Rattle.ledger.specs.declared.state.Account.{Account}
 use Rattle.ledger.specs.declared.state.Ledger.{Ledger}
-use Rattle.ledger.specs.declared.entries.Entry.{Entry}
 use Rattle.ledger.specs.declared.answers.Posted.{Posted}
 use Rattle.ledger.proofs.Lists.{every-set}
 use Rattle.ledger.proofs.Sums.{over-cong}

@@ -5,12 +5,11 @@ use mathlib.Core.Bool.{Bool, true, false, cond, not, _&&_, _||_, true≢false}
 use mathlib.Core.List.{List, [], _∷_, map}
 use native.Mathlib.Omega.{arith}
 use lib.Dec.{eqb}
-use lib.IntN.{ℤ, pos, _+ℤ_, _-ℤ_}
-use lib.ListN.{length, getD, length-map}
+use lib.IntN.{ℤ, pos, _+ℤ_}
+use lib.ListN.{length, length-map}
 use borrow.Author.Tests.{ne-eqb, not-false}
 use Rattle.tariff.specs.Dates.{real, lastOfMonth, lastDate, dayAfter}
 use Rattle.tariff.specs.Terms.{termsInRange}
-use Rattle.tariff.specs.declared.dates.Date.{Date}
 use Rattle.tariff.specs.declared.terms.Terms.{Terms}
 use Rattle.tariff.proofs.Bools.{and-left, and-right, or-right}
 use Rattle.tariff.proofs.NextDays.{right-days}
@@ -18,11 +17,10 @@ use Rattle.ledger.specs.Checks.{verdict}
 use Rattle.ledger.specs.Entries.{entryOf}
 use Rattle.ledger.specs.State.{accountAt}
 use Rattle.ledger.specs.Ranges.{accountInRange, everyAccount, inRange}
-use Rattle.ledger.specs.Answers.{quiet}
-use Rattle.ledger.specs.Closing.{closedAccount, accountClosed, reportOf, staysInRange, wrongClosing, complete, closingChecks, closed}
+use Rattle.ledger.specs.Closing.{closedAccount, accountClosed, reportOf, staysInRange, wrongClosing, closingChecks, closed}
 use Rattle.ledger.specs.Posting.{admission}
 use Rattle.ledger.specs.Panel.{openBank}
-use Rattle.ledger.specs.History.{rateAfter, cashIn, cashOut, forfeited, billed, violated, reported, transferIn, transferOut, overFirst, bankOf, owedOf, daysOf}
+use Rattle.ledger.specs.History.{rateAfter, cashIn, cashOut, forfeited, billed, violated, reported, transferIn, transferOut, bankOf, owedOf, daysOf}
 use Rattle.ledger.specs.declared.state.Account.{Account}
 use Rattle.ledger.specs.declared.state.Ledger.{Ledger}
 use Rattle.ledger.specs.declared.entries.Entry.{Entry}
@@ -33,7 +31,7 @@ use Rattle.ledger.proofs.Admitted.{is-ranged, is-begun, is-real}
 use Rattle.ledger.proofs.Sums.{over-cong}
 use Rattle.ledger.proofs.Moves.{line, moved, closing-moves, transfer-in-at, transfer-out-at, rate-at}
 use Rattle.ledger.proofs.ClosedAccounts.{openOwed, openDays, reportMoves, accounted, account-closed, account-reported, chosen}
-use Rattle.ledger.proofs.OneStep.{Rated, Step}
+use Rattle.ledger.proofs.OneStep.{Step}
 
 both : (a b : Bool) → a ≡ true → b ≡ true → a && b ≡ true
 both a b p q = rw (p, q)

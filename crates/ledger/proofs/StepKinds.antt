@@ -1,15 +1,15 @@
 -- What an accepted posting of each kind does.
-use Prim.Native.Nat.{ℕ, _+_, _≤_, _<_}
+use Prim.Native.Nat.{ℕ, _<_}
 use mathlib.Core.Path.{_≡_, refl, sym, ap, _∙_}
-use mathlib.Core.Bool.{Bool, true, false, cond, not, _&&_, true≢false}
-use mathlib.Core.List.{List, [], _∷_, map}
+use mathlib.Core.Bool.{Bool, true, false, cond, _&&_, true≢false}
+use mathlib.Core.List.{List, map}
 use native.Mathlib.Omega.{arith}
 use lib.Dec.{eqb}
 use lib.IntN.{ℤ, pos, negℤ, _+ℤ_, _-ℤ_, +ℤ-idr, +ℤ-idl}
 use lib.ListN.{length, getD, length-map, List·getD-map}
-use borrow.Author.Tests.{eqb-true, eqb-false, eq-eqb, ne-eqb, not-false}
-use Rattle.tariff.specs.Amounts.{sum, more, less, amountOf}
-use Rattle.tariff.specs.Terms.{termsInRange, capacityOf}
+use borrow.Author.Tests.{eqb-true, not-false}
+use Rattle.tariff.specs.Amounts.{sum, more, less}
+use Rattle.tariff.specs.Terms.{capacityOf}
 use Rattle.tariff.specs.declared.terms.Terms.{Terms}
 use Rattle.tariff.proofs.Bools.{and-left, and-right}
 use Rattle.tariff.proofs.Laws.{sum-value, more-value, less-value, amount-value}
@@ -27,16 +27,16 @@ use Rattle.ledger.specs.Measure.{remeasured, afterMeasure, measureChecks
 use Rattle.ledger.specs.Usage.{metered, afterUsage, usageChecks}
 use Rattle.ledger.specs.Posting.{admission}
 use Rattle.ledger.specs.Panel.{openBank}
-use Rattle.ledger.specs.History.{rateAfter, transferIn, transferOut, overFirst, bankOf, owedOf, daysOf}
+use Rattle.ledger.specs.History.{transferIn, transferOut, bankOf, owedOf, daysOf}
 use Rattle.ledger.specs.declared.state.Account.{Account}
 use Rattle.ledger.specs.declared.state.Ledger.{Ledger}
 use Rattle.ledger.specs.declared.entries.Entry.{Entry}
 use Rattle.ledger.proofs.Verdicts.{clear}
 use Rattle.ledger.proofs.Admitted.{is-ranged, is-begun, a-fits, b-fits, transfer-fits}
 use Rattle.ledger.proofs.Sums.{over-cong, only-one}
-use Rattle.ledger.proofs.Moves.{line, moved, terms-move, enrol-moves, deliver-moves, transfer-moves, trade-moves, measure-moves, usage-moves, transfer-in-at, transfer-out-at, rate-at}
+use Rattle.ledger.proofs.Moves.{line, terms-move, enrol-moves, deliver-moves, transfer-moves, trade-moves, measure-moves, usage-moves, transfer-in-at, transfer-out-at, rate-at}
 use Rattle.ledger.proofs.ClosedAccounts.{openOwed, openDays, chosen}
-use Rattle.ledger.proofs.OneStep.{Rated, Taken, size-stored, account-stored, ranged-stored, no-transfers, keeps-rate, stores}
+use Rattle.ledger.proofs.OneStep.{Taken, size-stored, account-stored, ranged-stored, no-transfers, keeps-rate, stores}
 
 not-chosen : {A : Type 0} (t : Bool) (x y : A) → t ≡ false → cond t x y ≡ y
 not-chosen true x y h = absurd (true≢false h)

@@ -1,5 +1,5 @@
 -- Sums of signed numbers: the nine terms of a bank, and sums over the accounts.
-use Prim.Native.Nat.{ℕ, zero, suc, _+_, _≤_, _<_}
+use Prim.Native.Nat.{ℕ, zero, suc, _<_}
 use mathlib.Core.Path.{_≡_, refl, sym, ap, _∙_}
 use mathlib.Core.Bool.{Bool, true, false, cond}
 use mathlib.Core.List.{List, [], _∷_}
@@ -10,7 +10,7 @@ use lib.ListN.{length, getD}
 use borrow.Author.Tests.{eqb-true, eqb-false, ltb-true, ltb-false, lt-ltb, le-ltb}
 use Rattle.ledger.specs.State.{nobody}
 use Rattle.ledger.specs.Panel.{openBank, openBanks}
-use Rattle.ledger.specs.History.{overFirst, overAll}
+use Rattle.ledger.specs.History.{overFirst}
 use Rattle.ledger.specs.declared.state.Account.{Account}
 
 -- ---- two sums added, and subtracted

@@ -1,6 +1,6 @@
 -- "Both closings, for each open account: V3 … V8. Then V7: cash-in up to minimum × BCQ. V8: cash-out down to maximum × BCQ. Any V adds one violation day. If bank ≤ maximum × BCQ the excuse ends. The date moves on a day; marks of the day clear."
 use Prim.Native.Nat.{ℕ, _+_}
-use mathlib.Core.Bool.{Bool, true, false, cond, not, _&&_, _||_}
+use mathlib.Core.Bool.{Bool, false, cond, not, _&&_, _||_}
 use mathlib.Core.List.{List, [], _∷_, map}
 use lib.Dec.{eqb}
 use lib.IntN.{pos}

@@ -1,6 +1,6 @@
 -- "DELIVER: delivered less back-cast, × (10,000 − R) / 10,000, is the amount added to bank, and alone to month net. … V1 and V2 are marks that this day's closing reports."
 use Prim.Native.Nat.{ℕ}
-use mathlib.Core.Bool.{Bool, true, not}
+use mathlib.Core.Bool.{true, not}
 use mathlib.Core.List.{List, [], _∷_}
 use Rattle.tariff.specs.Amounts.{sum}
 use Rattle.tariff.specs.Delivery.{retained, breaksV1, shareOf, breaksV2}

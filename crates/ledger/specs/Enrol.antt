@@ -1,6 +1,5 @@
 -- "ENROL: … k and pending = MDQ / 3,000 rounded up; MDDQ, BCQ as above. … The account's other numbers and marks start at 0; accounts are never closed."
-use Prim.Native.Nat.{ℕ}
-use mathlib.Core.Bool.{Bool, true, not}
+use mathlib.Core.Bool.{true, not}
 use mathlib.Core.List.{List, [], _∷_}
 use lib.IntN.{pos}
 use Rattle.tariff.specs.Amounts.{amountOf}

@@ -3,7 +3,7 @@
 use Prim.Native.Nat.{ℕ, zero, suc, _+_, _<_}
 use mathlib.Core.Path.{_≡_}
 use mathlib.Core.Bool.{Bool, cond, not, _&&_}
-use mathlib.Core.List.{List, [], _∷_, map}
+use mathlib.Core.List.{List, [], _∷_}
 use lib.Dec.{eqb}
 use lib.IntN.{ℤ, pos, _+ℤ_, _-ℤ_}
 use lib.ListN.{getD}
@@ -18,7 +18,6 @@ use Rattle.ledger.specs.declared.state.Ledger.{Ledger}
 use Rattle.ledger.specs.declared.entries.Entry.{Entry}
 use Rattle.ledger.specs.declared.answers.Report.{Report}
 use Rattle.ledger.specs.declared.answers.Answer.{Answer}
-use Rattle.ledger.specs.declared.panels.Panel.{Panel}
 
 -- ---- a list of postings: "The first gets the fresh ledger, each next one the ledger that the one before returned"
 

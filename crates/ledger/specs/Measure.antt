@@ -1,6 +1,5 @@
 -- "MEASURE with m sets MDQ. …"
-use Prim.Native.Nat.{ℕ}
-use mathlib.Core.Bool.{Bool, true, not}
+use mathlib.Core.Bool.{true, not}
 use mathlib.Core.List.{List, [], _∷_}
 use Rattle.tariff.specs.Dates.{onMeasurementDay}
 use Rattle.tariff.specs.Steps.{measured}

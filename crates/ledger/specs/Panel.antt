@@ -1,5 +1,4 @@
 -- "The panel gives the sum of open banks, 0 when fresh; 20 and 0 on a bad ledger."
-use Prim.Native.Nat.{ℕ}
 use mathlib.Core.Bool.{cond}
 use mathlib.Core.List.{List, [], _∷_}
 use lib.IntN.{ℤ, pos, _+ℤ_}

@@ -1,6 +1,5 @@
 -- "20 a number in the ledger outside its range: bank −10^9 to 10^11; net within 10^11 of zero; other month numbers and carry 0 to 10^11, Mcf to 10^8; owed within 10^15; violation days to 40,000; k, pending 1 to 100 if open; runs 0 to 2; MDQ, MDDQ to 300,000; BCQ to 3 × 10^7; terms and date as above once begun"
-use Prim.Native.Nat.{ℕ}
-use mathlib.Core.Bool.{Bool, true, false, not, _&&_, _||_}
+use mathlib.Core.Bool.{Bool, true, not, _&&_, _||_}
 use mathlib.Core.List.{List, [], _∷_}
 use lib.Dec.{leb}
 use Rattle.tariff.specs.Amounts.{within, withinMills}

@@ -1,6 +1,6 @@
 -- "A fresh ledger has no terms, date or open account. An account holds its bank, MDQ, step k, pending step, two runs, MDDQ, BCQ, month net, month company sales and purchases, month cash-ins and cash-outs, carry, owed, violation days, and marks. The ledger marks that something was accepted today."
 use Prim.Native.Nat.{ℕ}
-use mathlib.Core.Bool.{Bool, true, false}
+use mathlib.Core.Bool.{true, false}
 use lib.IntN.{pos}
 use lib.ListN.{getD, set, replicate}
 use Rattle.tariff.specs.declared.amounts.Units.{Units}

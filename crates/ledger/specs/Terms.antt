@@ -1,6 +1,5 @@
 -- "TERMS begins the ledger on its date or replaces the terms. MDDQ = …; BCQ = …, for every open account."
-use Prim.Native.Nat.{ℕ}
-use mathlib.Core.Bool.{Bool, true, not, cond}
+use mathlib.Core.Bool.{true, not, cond}
 use mathlib.Core.List.{List, [], _∷_, map}
 use Rattle.tariff.specs.Dates.{firstOfGasYear}
 use Rattle.tariff.specs.Terms.{capacityOf}

@@ -1,5 +1,4 @@
 -- "TRADE: A; flag 0 company sells to A, 1 buys"
-use Prim.Native.Nat.{ℕ}
 use mathlib.Core.Bool.{Bool, cond, not}
 use mathlib.Core.List.{List, [], _∷_}
 use Rattle.tariff.specs.Amounts.{more, less, together}

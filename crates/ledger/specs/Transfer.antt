@@ -1,6 +1,5 @@
 -- "TRANSFER … A gives to B"; "A receiver may not end above the month's maximum, a giver not below its minimum."
-use Prim.Native.Nat.{ℕ}
-use mathlib.Core.Bool.{Bool, not, _&&_, _||_}
+use mathlib.Core.Bool.{not, _&&_, _||_}
 use mathlib.Core.List.{List, [], _∷_}
 use Rattle.tariff.specs.Amounts.{more, less}
 use Rattle.tariff.specs.Limits.{aboveMaximum, belowMinimum}

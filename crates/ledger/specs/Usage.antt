@@ -1,6 +1,5 @@
 -- "USAGE: A; w1 Mcf": it sets the month's consumption.
-use Prim.Native.Nat.{ℕ}
-use mathlib.Core.Bool.{Bool, true, not}
+use mathlib.Core.Bool.{true, not}
 use mathlib.Core.List.{List, [], _∷_}
 use Rattle.tariff.specs.declared.amounts.Mcf.{Mcf}
 use Rattle.tariff.specs.declared.bill.Totals.{Totals}

@@ -13,6 +13,7 @@ use crate::entries::Entry;
 use crate::ranges::account_in_range;
 use crate::state::Account;
 use crate::state::Ledger;
+use crate::state::with_account;
 use tariff::amounts::Quantity;
 use tariff::amounts::Units;
 use tariff::delivery::breaks_v1;
@@ -67,6 +68,6 @@ pub fn post_deliver(l: Ledger, e: Entry) -> Posted
         !a.opened,
         refuse(26, a.marks.delivered, refuse(29, out, 0)),
     );
-    let next = l.with_account(i, b);
+    let next = with_account(l, i, b);
     settle(l, n, next)
 }

@@ -4,7 +4,7 @@ ghost use mathlib.Core.Bool.{true};
 ghost use Prim.Native.Nat.{_≤_};
 ghost use Rattle.tariff.specs.Terms.{termsInRange};
 ghost use Rattle.ledger.specs.Posting.{admission};
-ghost use Rattle.ledger.specs.Enrol.{newAccount, enrolled, postEnrol};
+ghost use Rattle.ledger.specs.Enrol.{newAccount, postEnrol};
 use crate::answers::Posted;
 use crate::answers::settle;
 use crate::checks::refuse;
@@ -14,6 +14,7 @@ use crate::state::Account;
 use crate::state::Ledger;
 use crate::state::no_marks;
 use crate::state::no_totals;
+use crate::state::with_account;
 use tariff::amounts::Dth;
 use tariff::amounts::Mills;
 use tariff::amounts::Quantity;
@@ -72,6 +73,6 @@ pub fn post_enrol(l: Ledger, e: Entry) -> Posted
             refuse(25, stays, refuse(28, above, refuse(29, out, 0))),
         ),
     );
-    let next = l.with_account(i, b);
+    let next = with_account(l, i, b);
     settle(l, n, next)
 }

@@ -12,6 +12,7 @@ use crate::entries::Entry;
 use crate::ranges::account_in_range;
 use crate::state::Account;
 use crate::state::Ledger;
+use crate::state::with_account;
 use tariff::amounts::Dth;
 
 fn remeasured(a: Account, mdq: Dth) -> Account
@@ -48,6 +49,6 @@ pub fn post_measure(l: Ledger, e: Entry) -> Posted
             refuse(26, a.marks.measured, refuse(29, out, 0)),
         ),
     );
-    let next = l.with_account(i, b);
+    let next = with_account(l, i, b);
     settle(l, n, next)
 }

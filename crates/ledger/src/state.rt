@@ -102,15 +102,13 @@ pub fn nobody() -> Account
     }
 }
 
-impl Ledger {
-    // With an account anew, after something was accepted.
-    pub fn with_account(self, i: usize, a: Account) -> Ledger
-        requires { ⌜ i < 16 ⌝ }
-        ensures { λ r. ⌜ r ≡ withAccount self i a ⌝ }
-    {
-        let mut next = self;
-        next.accounts[i] = a;
-        next.touched = true;
-        next
-    }
+// With an account anew, after something was accepted.
+pub fn with_account(l: Ledger, i: usize, a: Account) -> Ledger
+    requires { ⌜ i < 16 ⌝ }
+    ensures { λ r. ⌜ r ≡ withAccount l i a ⌝ }
+{
+    let mut next = l;
+    next.accounts[i] = a;
+    next.touched = true;
+    next
 }

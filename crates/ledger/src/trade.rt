@@ -13,6 +13,7 @@ use crate::entries::Entry;
 use crate::ranges::account_in_range;
 use crate::state::Account;
 use crate::state::Ledger;
+use crate::state::with_account;
 use tariff::amounts::Dth;
 use tariff::amounts::Quantity;
 use tariff::amounts::Units;
@@ -68,6 +69,6 @@ pub fn post_trade(l: Ledger, e: Entry) -> Posted
     let past = past_limit(sells, month, bcq, bank);
     let out = !account_in_range(b);
     let n = refuse(24, !a.opened, refuse(28, past, refuse(29, out, 0)));
-    let next = l.with_account(i, b);
+    let next = with_account(l, i, b);
     settle(l, n, next)
 }

@@ -8,6 +8,7 @@ use crate::checks::refuse;
 use crate::entries::Entry;
 use crate::ranges::account_in_range;
 use crate::state::Ledger;
+use crate::state::with_account;
 use tariff::amounts::Quantity;
 use tariff::limits::above_maximum;
 use tariff::limits::below_minimum;
@@ -32,7 +33,7 @@ pub fn post_transfer(l: Ledger, e: Entry) -> Posted
     let high = above_maximum(month, receiver.capacity.bcq, received);
     let out = !(account_in_range(giver) & account_in_range(receiver));
     let n = refuse(24, closed, refuse(28, low | high, refuse(29, out, 0)));
-    let half = l.with_account(i, giver);
-    let next = half.with_account(j, receiver);
+    let half = with_account(l, i, giver);
+    let next = with_account(half, j, receiver);
     settle(l, n, next)
 }

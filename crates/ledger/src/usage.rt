@@ -9,6 +9,7 @@ use crate::entries::Entry;
 use crate::ranges::account_in_range;
 use crate::state::Account;
 use crate::state::Ledger;
+use crate::state::with_account;
 use tariff::amounts::Mcf;
 
 fn metered(a: Account, usage: Mcf) -> Account
@@ -37,6 +38,6 @@ pub fn post_usage(l: Ledger, e: Entry) -> Posted
         !a.opened,
         refuse(26, a.marks.metered, refuse(29, out, 0)),
     );
-    let next = l.with_account(i, b);
+    let next = with_account(l, i, b);
     settle(l, n, next)
 }

@@ -1,13 +1,13 @@
 -- The calendar, worked out instead of looked up, and its two laws: what day comes next, and what weekday that is.
-use Prim.Native.Nat.{ℕ, zero, suc, _+_, _*_, _-_, _/_, _%_, _≤_, _<_}
+use Prim.Native.Nat.{ℕ, zero, suc, _+_, _*_, _-_, _/_, _%_, _≤_}
 use mathlib.Core.Path.{_≡_, refl, sym, ap, _∙_}
-use mathlib.Core.Bool.{Bool, true, false, cond, not, _&&_, _||_}
+use mathlib.Core.Bool.{Bool, true, false, cond}
 use mathlib.Core.List.{List, [], _∷_}
 use native.Mathlib.Omega.{arith}
 use lib.Dec.{eqb, ltb, leb}
 use lib.ListN.{getD, take}
-use borrow.Author.Tests.{eqb-true, eqb-false, ne-eqb, ltb-true}
-use Rattle.tariff.specs.Dates.{leap, divides, lengths, monthLength, total}
+use borrow.Author.Tests.{eqb-true, ne-eqb, ltb-true}
+use Rattle.tariff.specs.Dates.{leap, lengths, monthLength, total}
 use Rattle.tariff.specs.declared.months.Month.{Month}
 use Rattle.tariff.proofs.Tables.{allBelow, at-each, each, entry-le}
 use Rattle.tariff.proofs.Results.{choice-le}

@@ -1,7 +1,7 @@
 -- The laws of the amounts that the layers above go by: what each definition makes of the numbers.
 use Prim.Native.Nat.{ℕ, zero, suc, _+_, _≤_}
-use mathlib.Core.Path.{_≡_, refl, sym, _∙_}
-use mathlib.Core.Bool.{Bool, true, _&&_}
+use mathlib.Core.Path.{_≡_, refl, sym}
+use mathlib.Core.Bool.{true, _&&_}
 use native.Mathlib.Omega.{arith}
 use lib.Dec.{leb}
 use lib.Signed.{leZ}
@@ -11,7 +11,7 @@ use Rattle.tariff.specs.Amounts.{nothing, amountOf, sum, more, less, opp
 use Rattle.tariff.specs.declared.amounts.Units.{Units}
 use Rattle.tariff.specs.declared.amounts.Quantity.{Quantity}
 use Rattle.tariff.specs.declared.amounts.Mills.{Mills}
-use Rattle.tariff.proofs.Signed.{size-between, size-sum}
+use Rattle.tariff.proofs.Signed.{size-between}
 
 -- ---- numbers
 

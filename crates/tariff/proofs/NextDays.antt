@@ -1,20 +1,19 @@
 -- The day after a real date is the right one: the laws that `right_days` states.
-use Prim.Native.Nat.{ℕ, zero, suc, _+_, _*_, _-_, _/_, _%_, _≤_, _<_}
+use Prim.Native.Nat.{ℕ, _+_, _*_, _-_, _/_, _%_, _≤_, _<_}
 use mathlib.Core.Path.{_≡_, refl, sym, ap, _∙_}
-use mathlib.Core.Bool.{Bool, true, false, cond, not, _&&_, _||_}
-use mathlib.Core.List.{List, [], _∷_}
+use mathlib.Core.Bool.{Bool, true, false, cond, not, _&&_}
 use native.Mathlib.Omega.{arith}
 use lib.Dec.{eqb, leb}
 use lib.ListN.{getD, take}
 use borrow.Author.Tests.{eqb-true, eqb-false, eq-eqb, ne-eqb, le-leb, leb-true}
 use Rattle.tariff.specs.Months.{sameMonth, december}
 use Rattle.tariff.specs.Dates.{leap, divides, lengths, monthLength, real, isOn, lastOfMonth, lastDate, dayAfter, total, dayNumber, weekday}
-use Rattle.tariff.specs.Calendar.{written, NextDay, RightDays}
+use Rattle.tariff.specs.Calendar.{written, RightDays}
 use Rattle.tariff.specs.declared.months.Month.{Month}
 use Rattle.tariff.specs.declared.dates.Date.{Date}
 use Rattle.tariff.proofs.Bools.{and-fails}
 use Rattle.tariff.proofs.Tables.{allBelow, at-each}
-use Rattle.tariff.proofs.Ranges.{DateBounds, date-bounds}
+use Rattle.tariff.proofs.Ranges.{date-bounds}
 use Rattle.tariff.proofs.Calendar.{months, lengths-are, month-length-le}
 
 abbrev date : ℕ → ℕ → ℕ → Date

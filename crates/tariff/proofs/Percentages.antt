@@ -1,8 +1,6 @@
 -- No percentage of a month is above 102.
-use Prim.Native.Nat.{ℕ, _≤_}
-use mathlib.Core.Path.{_≡_}
-use lib.ListN.{getD}
-use Rattle.tariff.specs.Months.{gasMonth, minimum, maximum, mmbq, withdrawalMaximum, withdrawalMinimum}
+use Prim.Native.Nat.{_≤_}
+use Rattle.tariff.specs.Months.{minimum, maximum, mmbq, withdrawalMaximum, withdrawalMinimum}
 use Rattle.tariff.specs.declared.months.Month.{Month}
 use Rattle.tariff.proofs.Tables.{entry-le}
 

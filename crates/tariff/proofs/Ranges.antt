@@ -1,10 +1,9 @@
 -- What a passed range check tells, as bounds on natural numbers, and what follows for the capacities.
-use Prim.Native.Nat.{ℕ, _+_, _*_, _/_, _≤_, _<_}
+use Prim.Native.Nat.{ℕ, _*_, _/_, _≤_}
 use mathlib.Core.Path.{_≡_}
-use mathlib.Core.Bool.{Bool, true, _&&_}
+use mathlib.Core.Bool.{true}
 use native.Mathlib.Omega.{arith}
 use native.Mathlib.Nat.{mul-le-mul-left, mul-comm, mul-assoc, div-le-of-le-mul}
-use lib.Dec.{leb}
 use borrow.Author.Tests.{leb-true}
 use Rattle.tariff.specs.Terms.{termsInRange, mddqOf, bcqOf}
 use Rattle.tariff.specs.Bill.{pricesInRange}
@@ -13,7 +12,7 @@ use Rattle.tariff.specs.declared.amounts.Dth.{Dth}
 use Rattle.tariff.specs.declared.terms.Terms.{Terms}
 use Rattle.tariff.specs.declared.bill.Prices.{Prices}
 use Rattle.tariff.specs.declared.dates.Date.{Date}
-use Rattle.tariff.proofs.Bools.{and-left, and-right, parts}
+use Rattle.tariff.proofs.Bools.{parts}
 
 pub record TermsBounds (t : Terms) : Type 0 where
   pub no-notice : (1 ≤ t .«no_notice» .0) × (t .«no_notice» .0 ≤ 10000000)

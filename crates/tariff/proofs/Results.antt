@@ -1,23 +1,21 @@
 -- How large what the definitions give can be.
-use Prim.Native.Nat.{ℕ, _+_, _*_, _-_, _/_, _≤_, _<_, min, max}
+use Prim.Native.Nat.{ℕ, _+_, _*_, _-_, _/_, _≤_, min, max}
 use mathlib.Core.Path.{_≡_}
 use mathlib.Core.Bool.{Bool, true, false, cond, not, _&&_, _||_}
 use native.Mathlib.Omega.{arith}
 use native.Mathlib.Nat.{mul-le-mul, div-le-of-le-mul}
 use lib.Dec.{leb}
 use lib.IntN.{pos, _-ℤ_, _*ℤ_, natAbs}
-use lib.Signed.{quotZ}
 use borrow.Author.Tests.{leb-false}
 use Rattle.tariff.specs.Amounts.{nothing, size, opposite, gap, percent, below, sizeMills, noMoney, charged, credited}
 use Rattle.tariff.specs.Months.{sameMonth, january, march, november, december, winter, minimum, maximum, withdrawalMaximum}
 use Rattle.tariff.specs.Terms.{termsInRange, mddqOf, capacityOf}
 use Rattle.tariff.specs.Delivery.{retained, daysOfInjection, shareOf}
-use Rattle.tariff.specs.Steps.{stepOf, firstStep, measured, crosses, isOver, isUnder}
-use Rattle.tariff.specs.Closing.{excessOver, carryOf, forfeitOf, withdrawalLimit, cashOf, breaksV7, breaksV8, maskOf}
+use Rattle.tariff.specs.Steps.{stepOf, measured, crosses, isOver, isUnder}
+use Rattle.tariff.specs.Closing.{carryOf, forfeitOf, withdrawalLimit, cashOf, breaksV7, breaksV8, maskOf}
 use Rattle.tariff.specs.Bill.{pricesInRange, cashInCharge, cashOutCredit, atInventoryCost, billOf}
 use Rattle.tariff.specs.Bounds.{Bounds}
 use Rattle.tariff.specs.declared.amounts.Dth.{Dth}
-use Rattle.tariff.specs.declared.amounts.Mills.{Mills}
 use Rattle.tariff.specs.declared.amounts.Quantity.{Quantity}
 use Rattle.tariff.specs.declared.amounts.Units.{Units}
 use Rattle.tariff.specs.declared.bill.Prices.{Prices}
@@ -27,7 +25,7 @@ use Rattle.tariff.specs.declared.steps.Step.{Step}
 use Rattle.tariff.specs.declared.terms.Terms.{Terms}
 use Rattle.tariff.proofs.Bools.{either, or-left, or-right}
 use Rattle.tariff.proofs.Percentages.{minimum-le, maximum-le, withdrawal-maximum-le}
-use Rattle.tariff.proofs.Ranges.{PriceBounds, price-bounds, TermsBounds, terms-bounds, mddq-le, bcq-le}
+use Rattle.tariff.proofs.Ranges.{price-bounds, terms-bounds, mddq-le, bcq-le}
 use Rattle.tariff.proofs.Signed.{size-naturals, size-product, size-quotient-is}
 use Rattle.tariff.proofs.Sizes.{excess-le, percent-le, size-opposite, size-gap, size-nothing, size-no-money, size-charged, size-credited}
 

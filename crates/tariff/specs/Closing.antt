@@ -1,6 +1,6 @@
 -- Both closings: "for each open account: V3 … V8", the cash, the carry and the forfeit.
 use Prim.Native.Nat.{ℕ, _+_, _-_}
-use mathlib.Core.Bool.{Bool, true, false, cond, not, _&&_, _||_}
+use mathlib.Core.Bool.{Bool, cond, not, _&&_, _||_}
 use Rattle.tariff.specs.Amounts.{nothing, inward, opposite, gap, above, below, less, percent}
 use Rattle.tariff.specs.Months.{sameMonth, january, february, march, june, august, minimum, maximum, mmbq, withdrawalMaximum, withdrawalMinimum, winter}
 use Rattle.tariff.specs.Dates.{isOn, lastOfMonth}

@@ -1,5 +1,4 @@
 -- ENROL: who is served, and with how much in bank.
-use Prim.Native.Nat.{ℕ}
 use mathlib.Core.Bool.{Bool, not, _&&_, _||_}
 use lib.Dec.{ltb}
 use Rattle.tariff.specs.Amounts.{percent}

@@ -3,7 +3,6 @@ use Prim.Native.Nat.{ℕ}
 use mathlib.Core.Path.{_≡_}
 use mathlib.Core.Bool.{true, false}
 use lib.IntN.{pos, negsuc}
-use Rattle.tariff.specs.Amounts.{gap}
 use Rattle.tariff.specs.Months.{april}
 use Rattle.tariff.specs.Dates.{measurementDay}
 use Rattle.tariff.specs.Terms.{termsInRange, capacityOf}
@@ -17,7 +16,6 @@ use Rattle.tariff.specs.declared.amounts.Quantity.{Quantity}
 use Rattle.tariff.specs.declared.amounts.Units.{Units}
 use Rattle.tariff.specs.declared.bill.Prices.{Prices}
 use Rattle.tariff.specs.declared.steps.Step.{Step}
-use Rattle.tariff.specs.declared.terms.Capacity.{Capacity}
 use Rattle.tariff.specs.declared.terms.Terms.{Terms}
 
 -- "NN 120,000, DD 480,000, S 5,000,400, R 150", at no rates

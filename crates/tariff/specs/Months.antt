@@ -1,7 +1,7 @@
 -- "Percentages are asked of the month itself, a type of its own with named constants. April to March"
 use Prim.Native.Nat.{ℕ, _+_, _%_}
-use mathlib.Core.Bool.{Bool, _||_}
-use mathlib.Core.List.{List, [], _∷_}
+use mathlib.Core.Bool.{Bool}
+use mathlib.Core.List.{[], _∷_}
 use lib.Dec.{eqb, leb}
 use lib.ListN.{getD}
 use Rattle.tariff.specs.declared.months.Month.{Month}

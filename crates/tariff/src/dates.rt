@@ -1,7 +1,7 @@
 // Dates of 2000 to 2099.
 ghost use mathlib.Core.Path.{_≡_};
 ghost use mathlib.Core.Bool.{true, false};
-ghost use Prim.Native.Nat.{_+_, _<_, _≤_, _^_};
+ghost use Prim.Native.Nat.{_+_, _<_, _≤_};
 ghost use Rattle.tariff.specs.Dates.{leap, monthLength, real, sameDate, isOn, firstOfGasYear, lastOfMonth, lastDate, dayAfter, dayNumber, weekday, measurementDay, onMeasurementDay};
 use crate::choice::choose;
 use crate::months::Month;

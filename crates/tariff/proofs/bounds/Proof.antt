@@ -1,4 +1,3 @@
-use Rattle.tariff.specs.Bounds.{Bounds}
 use Rattle.tariff.proofs.Results.{all-bounds}
 use Rattle.tariff.proofs.bounds.Statement.{statement}
 use Rattle.tariff.proofs.bounds.Tie as tie

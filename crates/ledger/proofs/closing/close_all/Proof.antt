@@ -12,7 +12,6 @@ use Rattle.ledger.specs.Closing.{accountClosed, closed, reportOf, staysI
 use Rattle.ledger.specs.Ranges.{everyAccount}
 use Rattle.ledger.specs.State.{accountAt, noMarks, noTotals, nobody}
 use Rattle.tariff.proofs.Signed.{fits}
-use Rattle.tariff.specs.Amounts.{nothing}
 use Rattle.tariff.specs.Terms.{termsInRange}
 use mathlib.Core.List.{List}
 use Rattle.ledger.specs.declared.state.Ledger.{Ledger}

@@ -8,7 +8,6 @@ use Rattle.ledger.proofs.Bounded.{account-ranged}
 use Rattle.ledger.proofs.Lists.{filled, filled-end, filled-next, length-mapped}
 use Rattle.ledger.specs.State.{accountAt, noMarks, noTotals, nobody}
 use Rattle.ledger.specs.Terms.{reworked, termsNext}
-use Rattle.tariff.specs.Amounts.{nothing}
 use mathlib.Core.List.{List}
 use Rattle.ledger.specs.declared.state.Ledger.{Ledger}
 use Rattle.ledger.specs.declared.state.Account.{Account}

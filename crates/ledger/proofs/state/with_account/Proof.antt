@@ -1,7 +1,7 @@
 use borrow.Author.Needs.{needs}
 use Rattle.ledger.specs.State.{withAccount}
-use Rattle.ledger.proofs.state.Ledger.with_account.Statement.{statement}
-use Rattle.ledger.proofs.state.Ledger.with_account.Tie as tie
+use Rattle.ledger.proofs.state.with_account.Statement.{statement}
+use Rattle.ledger.proofs.state.with_account.Tie as tie
 
 mul-a : tie.Need-mul-a
 mul-a c = search needs
