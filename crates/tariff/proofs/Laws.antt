@@ -11,6 +11,8 @@ use Rattle.tariff.specs.Amounts.{nothing, amountOf, sum, more, less, opp
 use Rattle.tariff.specs.declared.amounts.Units.{Units}
 use Rattle.tariff.specs.declared.amounts.Quantity.{Quantity}
 use Rattle.tariff.specs.declared.amounts.Mills.{Mills}
+use Rattle.tariff.specs.Steps.{settledStep}
+use Rattle.tariff.specs.declared.steps.Step.{Step}
 use Rattle.tariff.proofs.Signed.{size-between}
 
 -- ---- numbers
@@ -96,3 +98,9 @@ within-zero low high a h = rw h (zero-between low high)
 pub within-mills-zero : (n : ℕ) (m : Mills) → m .0 ≡ pos 0 → withinMills n m ≡ true
 unfolding withinMills
 within-mills-zero n m h = rw h (zero-between n n)
+
+-- ---- steps
+
+pub settled-k : (s : Step) → settledStep s .k ≡ s .pending
+unfolding settledStep
+settled-k s = refl

@@ -1,6 +1,6 @@
 use borrow.Author.Needs.{needs}
 use Rattle.ledger.specs.Closing.{nextCapacity}
-use Rattle.tariff.specs.Steps.{settledStep}
+use Rattle.tariff.proofs.Laws.{settled-k}
 use Rattle.ledger.proofs.closing.next_capacity.Statement.{statement}
 use Rattle.ledger.proofs.closing.next_capacity.Tie as tie
 
@@ -8,8 +8,9 @@ settled-requires : tie.Need-settled-requires
 settled-requires c κs = search needs
 
 capacity-requires : tie.Need-capacity-requires
-unfolding settledStep
-capacity-requires c κs = let s = c .before in (s .pre .0, rw (c .settled .ensures) (s .pre .1))
+capacity-requires c κs =
+    let s = c .before in
+    (s .pre .0, rw (c .settled .ensures, settled-k (s .args .a .step)) (s .pre .1))
 
 returns : tie.Need-returns
 unfolding nextCapacity
