@@ -120,7 +120,15 @@ deliveries i r (x ∷ xs) = delivery i r x +ℤ deliveries i (rateAfter r x) xs
 -- opening + deliveries + sales − purchases + transfers in − transfers out + cash-ins − cash-outs − forfeits
 unfoldable pub bankSum : ℕ → List Line → ℤ
 bankSum i xs =
-    sumOf (opening i) xs +ℤ deliveries i 0 xs +ℤ sumOf (sale i) xs -ℤ sumOf (purchase i) xs +ℤ sumOf (transferIn i) xs -ℤ sumOf (transferOut i) xs +ℤ sumOf (cashIn i) xs -ℤ sumOf (cashOut i) xs -ℤ sumOf (forfeited i) xs
+    sumOf (opening i) xs
+    +ℤ deliveries i 0 xs
+    +ℤ sumOf (sale i) xs
+    -ℤ sumOf (purchase i) xs
+    +ℤ sumOf (transferIn i) xs
+    -ℤ sumOf (transferOut i) xs
+    +ℤ sumOf (cashIn i) xs
+    -ℤ sumOf (cashOut i) xs
+    -ℤ sumOf (forfeited i) xs
 
 -- a sum over the first n accounts, and over all 16
 unfoldable pub overFirst : ℕ → (ℕ → ℤ) → ℤ
@@ -133,7 +141,13 @@ overAll f = overFirst 16 f
 -- the same sums over all accounts, with the transfers left out
 unfoldable pub figureSum : List Line → ℤ
 figureSum xs =
-    overAll (λ i. sumOf (opening i) xs) +ℤ overAll (λ i. deliveries i 0 xs) +ℤ overAll (λ i. sumOf (sale i) xs) -ℤ overAll (λ i. sumOf (purchase i) xs) +ℤ overAll (λ i. sumOf (cashIn i) xs) -ℤ overAll (λ i. sumOf (cashOut i) xs) -ℤ overAll (λ i. sumOf (forfeited i) xs)
+    overAll (λ i. sumOf (opening i) xs)
+    +ℤ overAll (λ i. deliveries i 0 xs)
+    +ℤ overAll (λ i. sumOf (sale i) xs)
+    -ℤ overAll (λ i. sumOf (purchase i) xs)
+    +ℤ overAll (λ i. sumOf (cashIn i) xs)
+    -ℤ overAll (λ i. sumOf (cashOut i) xs)
+    -ℤ overAll (λ i. sumOf (forfeited i) xs)
 
 -- ---- what the last ledger holds; "one not open counts as 0 in bank, owed and violation days"
 
@@ -180,4 +194,6 @@ DaysAddUp = (bs : List (List ℕ)) (i : ℕ) → i < 16 → daysOf (run fresh bs
 -- strike any of the refused postings: those that remain get the answers that they had, and the ledger at the end is the same
 abbrev pub StrikingChangesNothing : Type 0
 StrikingChangesNothing =
-    (bs : List (List ℕ)) (marks : List Bool) → (history fresh (bytesOf (remaining marks (history fresh bs))) ≡ remaining marks (history fresh bs)) × (run fresh (bytesOf (remaining marks (history fresh bs))) ≡ run fresh bs)
+    (bs : List (List ℕ)) (marks : List Bool)
+    → (history fresh (bytesOf (remaining marks (history fresh bs))) ≡ remaining marks (history fresh bs))
+    × (run fresh (bytesOf (remaining marks (history fresh bs))) ≡ run fresh bs)

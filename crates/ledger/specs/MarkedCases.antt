@@ -85,17 +85,32 @@ overdrawnApril =
 
 pub record MarkedCases : Type 0 where
   -- "MDQ 4,200 gives k 2, MDDQ 1,500, BCQ 62,505."
-  pub header : (accountAt (run fresh (begun 0)) 0 .step .k ≡ 2) × (accountAt (run fresh (begun 0)) 0 .capacity .mddq .0 ≡ 1500) × (accountAt (run fresh (begun 0)) 0 .capacity .bcq .0 ≡ 62505)
+  pub header :
+      (accountAt (run fresh (begun 0)) 0 .step .k ≡ 2)
+      × (accountAt (run fresh (begun 0)) 0 .capacity .mddq .0 ≡ 1500)
+      × (accountAt (run fresh (begun 0)) 0 .capacity .bcq .0 ≡ 62505)
   -- "Difference 1,000 gives 985; 1 and −1 give 0; −1,001 gives −985."
   pub case1 : (bankBy 1000 0 ≡ pos 985) × (bankBy 1 0 ≡ pos 0) × (bankBy 0 1 ≡ pos 0) × (bankBy 0 1001 ≡ negsuc 984)
   -- "April injection 37,503 passes, 37,504 is V1."
-  pub case2 : (bankBy 38075 0 ≡ pos 37503) × (reportAfter (begun 0 ++ deliver 1 38075 0 ∷ []) (closeDay 1) .mask ≡ 0) × (bankBy 38076 0 ≡ pos 37504) × (reportAfter (begun 0 ++ deliver 1 38076 0 ∷ []) (closeDay 1) .mask ≡ 1)
+  pub case2 :
+      (bankBy 38075 0 ≡ pos 37503)
+      × (reportAfter (begun 0 ++ deliver 1 38075 0 ∷ []) (closeDay 1) .mask ≡ 0)
+      × (bankBy 38076 0 ≡ pos 37504)
+      × (reportAfter (begun 0 ++ deliver 1 38076 0 ∷ []) (closeDay 1) .mask ≡ 1)
   -- "Opening 1,562,625 enters, 1,562,626 is 28."
   pub case3 : (numberAfter (terms ∷ []) (enrol 2 4200 1562625) ≡ 0) × (numberAfter (terms ∷ []) (enrol 2 4200 1562626) ≡ 28)
   -- "Bank 1,875,150 has share 100, 1,875,149 has 80.": the same withdrawal is no V2 from the one, and is V2 from the other
-  pub case4 : (bankOf (run fresh (begun 1562625 ++ deliver 1 317285 0 ∷ closeDay 1 ∷ [])) 0 ≡ pos 1875150) × (withdrawnAt 317285 ≡ 0) × (bankOf (run fresh (begun 1562625 ++ deliver 1 317284 0 ∷ closeDay 1 ∷ [])) 0 ≡ pos 1875149) × (withdrawnAt 317284 ≡ 2)
+  pub case4 :
+      (bankOf (run fresh (begun 1562625 ++ deliver 1 317285 0 ∷ closeDay 1 ∷ [])) 0 ≡ pos 1875150)
+      × (withdrawnAt 317285 ≡ 0)
+      × (bankOf (run fresh (begun 1562625 ++ deliver 1 317284 0 ∷ closeDay 1 ∷ [])) 0 ≡ pos 1875149)
+      × (withdrawnAt 317284 ≡ 2)
   -- "MDQ 999 wishing: 25; 1,000 wishing: in; 5,999 not wishing: 25; 6,000 not wishing: in."
-  pub case5 : (numberAfter (terms ∷ []) (enrol 2 999 0) ≡ 25) × (numberAfter (terms ∷ []) (enrol 2 1000 0) ≡ 0) × (numberAfter (terms ∷ []) (enrol 0 5999 0) ≡ 25) × (numberAfter (terms ∷ []) (enrol 0 6000 0) ≡ 0)
+  pub case5 :
+      (numberAfter (terms ∷ []) (enrol 2 999 0) ≡ 25)
+      × (numberAfter (terms ∷ []) (enrol 2 1000 0) ≡ 0)
+      × (numberAfter (terms ∷ []) (enrol 0 5999 0) ≡ 25)
+      × (numberAfter (terms ∷ []) (enrol 0 6000 0) ≡ 0)
   -- "From k 2: 6,500 gives 3; 6,499 a first time stays; 2,500 gives 1; 3,000 stays."
   pub case6 : (pendingBy 6500 ≡ 3) × (pendingBy 6499 ≡ 2) × (pendingBy 2500 ≡ 1) × (pendingBy 3000 ≡ 2)
   -- "Bank −1 in April: cash 1."

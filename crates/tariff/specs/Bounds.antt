@@ -33,4 +33,14 @@ pub record Bounds : Type 0 where
   pub forfeit : (m : Month) (bcq : Dth) (bank : Units) → forfeitOf m bcq bank .0 ≤ size bank
   pub mask : (v1 v2 v3 v4 v5 v6 v7 v8 : Bool) → maskOf v1 v2 v3 v4 v5 v6 v7 v8 ≤ 255
   -- owed, within 10^15, can take any month's bill without leaving 64 bits
-  pub bill : (t : Terms) (p : Prices) (mddq : Dth) (month : Totals) → termsInRange t ≡ true → pricesInRange p ≡ true → mddq .0 ≤ 300000 → month .usage .0 ≤ 100000000 → month .«cash_ins» .0 ≤ 300000000000 → month .«cash_outs» .0 ≤ 300000000000 → month .sales .0 ≤ 300000000000 → month .purchases .0 ≤ 300000000000 → sizeMills (billOf t p mddq month) ≤ 2000000000000000
+  pub bill :
+      (t : Terms) (p : Prices) (mddq : Dth) (month : Totals)
+      → termsInRange t ≡ true
+      → pricesInRange p ≡ true
+      → mddq .0 ≤ 300000
+      → month .usage .0 ≤ 100000000
+      → month .«cash_ins» .0 ≤ 300000000000
+      → month .«cash_outs» .0 ≤ 300000000000
+      → month .sales .0 ≤ 300000000000
+      → month .purchases .0 ≤ 300000000000
+      → sizeMills (billOf t p mddq month) ≤ 2000000000000000

@@ -55,7 +55,11 @@ pub record MarkedCases : Type 0 where
   -- "MDQ 4,200 gives k 2, MDDQ 1,500, BCQ 62,505."
   pub header : (termsInRange markedTerms ≡ true) × (stepOf (dth 4200) ≡ 2) × (capacityOf markedTerms 2 ≡ record { mddq = dth 1500; bcq = dth 62505 })
   -- "Difference 1,000 gives 985; 1 and −1 give 0; −1,001 gives −985."
-  pub case1 : (retained 150 (quantity 1000) (quantity 0) ≡ record { 0 = pos 985 }) × (retained 150 (quantity 1) (quantity 0) ≡ record { 0 = pos 0 }) × (retained 150 (quantity 0) (quantity 1) ≡ record { 0 = pos 0 }) × (retained 150 (quantity 0) (quantity 1001) ≡ record { 0 = negsuc 984 })
+  pub case1 :
+      (retained 150 (quantity 1000) (quantity 0) ≡ record { 0 = pos 985 })
+      × (retained 150 (quantity 1) (quantity 0) ≡ record { 0 = pos 0 })
+      × (retained 150 (quantity 0) (quantity 1) ≡ record { 0 = pos 0 })
+      × (retained 150 (quantity 0) (quantity 1001) ≡ record { 0 = negsuc 984 })
   -- "April injection 37,503 passes, 37,504 is V1."
   pub case2 : (breaksV1 april (dth 62505) (bank 37503) ≡ false) × (breaksV1 april (dth 62505) (bank 37504) ≡ true)
   -- "Opening 1,562,625 enters, 1,562,626 is 28."
@@ -63,9 +67,17 @@ pub record MarkedCases : Type 0 where
   -- "Bank 1,875,150 has share 100, 1,875,149 has 80." with a back-cast of 0
   pub case4 : (shareOf (bank 1875150) (dth 62505) (quantity 0) (dth 4200) ≡ 100) × (shareOf (bank 1875149) (dth 62505) (quantity 0) (dth 4200) ≡ 80)
   -- "MDQ 999 wishing: 25; 1,000 wishing: in; 5,999 not wishing: 25; 6,000 not wishing: in."
-  pub case5 : (staysOnFbs false true (dth 999) ≡ true) × (staysOnFbs false true (dth 1000) ≡ false) × (staysOnFbs false false (dth 5999) ≡ true) × (staysOnFbs false false (dth 6000) ≡ false)
+  pub case5 :
+      (staysOnFbs false true (dth 999) ≡ true)
+      × (staysOnFbs false true (dth 1000) ≡ false)
+      × (staysOnFbs false false (dth 5999) ≡ true)
+      × (staysOnFbs false false (dth 6000) ≡ false)
   -- "From k 2: 6,500 gives 3; 6,499 a first time stays; 2,500 gives 1; 3,000 stays."
-  pub case6 : (measured (atStep 2) (dth 6500) .pending ≡ 3) × (measured (atStep 2) (dth 6499) .pending ≡ 2) × (measured (atStep 2) (dth 2500) .pending ≡ 1) × (measured (atStep 2) (dth 3000) .pending ≡ 2)
+  pub case6 :
+      (measured (atStep 2) (dth 6500) .pending ≡ 3)
+      × (measured (atStep 2) (dth 6499) .pending ≡ 2)
+      × (measured (atStep 2) (dth 2500) .pending ≡ 1)
+      × (measured (atStep 2) (dth 3000) .pending ≡ 2)
   -- "Bank −1 in April: cash 1."
   pub case7 : cashOf april false (dth 62505) minusOne ≡ bank 1
   -- "1,000 units at W 3,000, H + E 3,100: 34,100 mills."
