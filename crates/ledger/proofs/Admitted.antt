@@ -27,6 +27,14 @@ pub admission-by : (l : Ledger) (e : Entry) → admission l e ≡ cond (eqb (ent
 unfolding admission entryNumber entryChecks
 admission-by l e = verdict-append (entryChecks e) (standingChecks l e) refl
 
+-- an entry wrong in itself is refused for that
+pub admission-own : (l : Ledger) (e : Entry) → (entryNumber e ≡ 0 → ⊥) → admission l e ≡ entryNumber e
+admission-own l e wrong = rw (admission-by l e, ne-eqb (entryNumber e) 0 wrong)
+
+-- one right in itself is refused for what the ledger says
+pub admission-standing : (l : Ledger) (e : Entry) → entryNumber e ≡ 0 → admission l e ≡ verdict (standingChecks l e)
+admission-standing l e right = rw (admission-by l e, eq-eqb (entryNumber e) 0 right)
+
 module _ (l : Ledger) (e : Entry) (h : admission l e ≡ 0) where
   pub is-kind : (1 ≤ e .kind) × (e .kind ≤ 9)
   unfolding admission entryChecks standingChecks

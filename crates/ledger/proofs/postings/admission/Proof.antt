@@ -1,9 +1,7 @@
 use borrow.Author.Needs.{needs}
-use borrow.Author.Tests.{eq-eqb, ne-eqb}
 use mathlib.Core.Path.{_∙_, sym}
-use Rattle.ledger.proofs.Admitted.{admission-by}
+use Rattle.ledger.proofs.Admitted.{admission-own, admission-standing}
 use Rattle.ledger.specs.Checks.{verdict}
-use Rattle.ledger.specs.Entries.{entryNumber}
 use Rattle.ledger.specs.Posting.{standingChecks}
 use Rattle.ledger.proofs.postings.admission.Statement.{statement}
 use Rattle.ledger.proofs.postings.admission.Tie as tie
@@ -15,7 +13,7 @@ returns : tie.Need-returns
 returns c =
     let s = c .before .before .before .before in
     rw (c .before .number .ensures)
-    (sym (admission-by (s .args .l) (s .args .e) ∙ rw (ne-eqb (entryNumber (s .args .e)) 0 (λ z. c .if1 .taken (c .before .number .ensures ∙ z)))))
+    (sym (admission-own (s .args .l) (s .args .e) (λ z. c .if1 .taken (c .before .number .ensures ∙ z))))
 
 in-range-requires : tie.Need-in-range-requires
 in-range-requires c κs = search needs
@@ -43,7 +41,7 @@ returns-2 c =
       c .before .before .before .before .same .ensures,
       c .before .before .before .before .before .before .before .in-range .ensures,
     )
-    (sym (admission-by (s .args .l) (s .args .e) ∙ rw (eq-eqb (entryNumber (s .args .e)) 0 (sym (c .before .before .before .before .before .before .before .before .before .number .ensures) ∙ c .before .before .before .before .before .before .before .before .if1 .left))))
+    (sym (admission-standing (s .args .l) (s .args .e) (sym (c .before .before .before .before .before .before .before .before .before .number .ensures) ∙ c .before .before .before .before .before .before .before .before .if1 .left)))
 
 pub admission-spec : {M : Type 1} → statement M
 admission-spec =
