@@ -10,7 +10,7 @@ use Rattle.tariff.specs.Terms.{termsInRange}
 use Rattle.tariff.specs.Bill.{pricesInRange}
 use Rattle.tariff.proofs.Bools.{and-left, and-right, or-left, or-right, parts}
 use Rattle.ledger.specs.Checks.{verdict}
-use Rattle.ledger.specs.Entries.{usesA, usesB, termsOf, pricesOf, accountTooHigh, someUnits, wordsInRange, lettersDiffer, entryChecks, entryNumber}
+use Rattle.ledger.specs.Entries.{usesA, usesB, termsOf, pricesOf, accountTooHigh, someUnits, wordsInRange, wrongTransfer, entryChecks, entryNumber}
 use Rattle.ledger.specs.Ranges.{inRange}
 use Rattle.ledger.specs.Posting.{standingChecks, admission}
 use Rattle.ledger.specs.declared.state.Ledger.{Ledger}
@@ -54,9 +54,9 @@ module _ (l : Ledger) (e : Entry) (h : admission l e ≡ 0) where
   unfolding admission entryChecks standingChecks
   words-fit = not-false (wordsInRange e) (clear _ refl h 4)
 
-  letters-agree : lettersDiffer e ≡ false
+  right-transfer : wrongTransfer e ≡ false
   unfolding admission entryChecks standingChecks
-  letters-agree = clear _ refl h 5
+  right-transfer = clear _ refl h 5
 
   pub is-ranged : inRange l ≡ true
   unfolding admission entryChecks standingChecks
@@ -109,10 +109,10 @@ module _ (l : Ledger) (e : Entry) (h : admission l e ≡ 0) where
   units-fit w t = leb-true w 1000000000 (and-right (leb 1 w) (leb w 1000000000) t)
 
   pub transfer-fits : e .kind ≡ 4 → (e .w1 ≤ 1000000000) × (e .a ≡ e .b → ⊥)
-  unfolding lettersDiffer
+  unfolding wrongTransfer
   transfer-fits k = (
     units-fit (e .w1) (and-left (someUnits (e .w1)) (someUnits (e .w2)) (words-of 4 k)),
-    eqb-false (e .a) (e .b) (or-left (eqb (e .a) (e .b)) (not (eqb (e .w1) (e .w2))) (rw (eq-eqb (e .kind) 4 k) at letters-agree)),
+    eqb-false (e .a) (e .b) (or-left (eqb (e .a) (e .b)) (not (eqb (e .w1) (e .w2))) (rw (eq-eqb (e .kind) 4 k) at right-transfer)),
   )
 
   pub trade-fits : e .kind ≡ 5 → e .w1 ≤ 1000000000

@@ -122,8 +122,8 @@ wordsInRange e =
     true)))))))
 
 -- "TRANSFER with A = B or w1 ≠ w2"
-unfoldable pub lettersDiffer : Entry → Bool
-lettersDiffer e = eqb (e .kind) 4 && (eqb (e .a) (e .b) || not (eqb (e .w1) (e .w2)))
+unfoldable pub wrongTransfer : Entry → Bool
+wrongTransfer e = eqb (e .kind) 4 && (eqb (e .a) (e .b) || not (eqb (e .w1) (e .w2)))
 
 unfoldable pub entryChecks : Entry → List Check
 entryChecks e =
@@ -132,7 +132,7 @@ entryChecks e =
     ∷ (accountTooHigh e, 4)
     ∷ (unusedSet e, 5)
     ∷ (not (wordsInRange e), 6)
-    ∷ (lettersDiffer e, 7)
+    ∷ (wrongTransfer e, 7)
     ∷ []
 
 -- the number of an entry of 32 bytes, 0 or 2 to 7

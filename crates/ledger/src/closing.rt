@@ -128,7 +128,7 @@ fn days(so_far: u64, mask: u64) -> u64
     ensures { λ r. ⌜ r ≡ «so_far» + cond (eqb mask 0) 0 1 ⌝ }
 {
     if mask == 0 {
-        return so_far + 0;
+        return so_far;
     }
     so_far + 1
 }

@@ -2,7 +2,7 @@
 ghost use mathlib.Core.Path.{_≡_};
 ghost use Prim.Native.Nat.{_+_, _<_, _≤_};
 ghost use lib.ListN.{length};
-ghost use Rattle.ledger.specs.Entries.{byteAt, wordAt, entryOf, usesA, usesB, largestFlag, wordsUsed, termsOf, pricesOf, processOnly, wishes, companySells, accountTooHigh, unusedSet, someUnits, wordsInRange, lettersDiffer, entryNumber};
+ghost use Rattle.ledger.specs.Entries.{byteAt, wordAt, entryOf, usesA, usesB, largestFlag, wordsUsed, termsOf, pricesOf, processOnly, wishes, companySells, accountTooHigh, unusedSet, someUnits, wordsInRange, wrongTransfer, entryNumber};
 use crate::checks::refuse;
 use tariff::amounts::Dth;
 use tariff::bill::Prices;
@@ -212,8 +212,8 @@ impl Entry {
         }
     }
 
-    fn letters_differ(self) -> bool
-        ensures { λ r. ⌜ r ≡ lettersDiffer self ⌝ }
+    fn wrong_transfer(self) -> bool
+        ensures { λ r. ⌜ r ≡ wrongTransfer self ⌝ }
     {
         (self.kind == 4) & ((self.a == self.b) | !(self.w1 == self.w2))
     }
@@ -228,8 +228,8 @@ impl Entry {
         let too_high = self.account_too_high();
         let set = self.unused_set();
         let outside = !self.words_in_range();
-        let differ = self.letters_differ();
-        let late = refuse(5, set, refuse(6, outside, refuse(7, differ, 0)));
+        let wrong = self.wrong_transfer();
+        let late = refuse(5, set, refuse(6, outside, refuse(7, wrong, 0)));
         refuse(2, no_kind, refuse(3, no_date, refuse(4, too_high, late)))
     }
 }

@@ -11,7 +11,7 @@ use Rattle.tariff.specs.Steps.{stepOf, firstStep, isOver, isUnder, crosses, mea
 use Rattle.tariff.specs.Closing.{breaksV3, withdrawalLimit, breaksV4, breaksV5, breaksV6, breaksV7, breaksV8, cashOf, endsExcuse, excessOver, carryOf, forfeitOf, maskOf}
 use Rattle.tariff.specs.Bill.{pricesInRange, cashInCharge, cashOutCredit, atInventoryCost, billOf}
 use Rattle.ledger.specs.Checks.{verdict}
-use Rattle.ledger.specs.Entries.{byteAt, wordAt, entryOf, usesA, usesB, largestFlag, wordsUsed, termsOf, pricesOf, processOnly, wishes, companySells, accountTooHigh, unusedSet, someUnits, wordsInRange, lettersDiffer, entryChecks, entryNumber}
+use Rattle.ledger.specs.Entries.{byteAt, wordAt, entryOf, usesA, usesB, largestFlag, wordsUsed, termsOf, pricesOf, processOnly, wishes, companySells, accountTooHigh, unusedSet, someUnits, wordsInRange, wrongTransfer, entryChecks, entryNumber}
 use Rattle.ledger.specs.State.{noTotals, noMarks, nobody, fresh, accountAt, withBank, withMonth, withMarks, withMeasure, withCapacity, withAccount}
 use Rattle.ledger.specs.Ranges.{totalsInRange, stepInRange, accountInRange, everyAccount, inRange}
 use Rattle.ledger.specs.Answers.{quiet, plain, refused, settle}
@@ -31,7 +31,7 @@ use Rattle.ledger.proofs.marked_cases.Statement.{statement}
 use Rattle.ledger.proofs.marked_cases.Tie as tie
 
 all-nine : MarkedCases
-unfolding nothing amountOf sum more less gap opposite positivePart inward outward above below within together percent noMoney charged credited added withinMills january february march april june august november december sameMonth gasMonth winter minimum maximum mmbq withdrawalMaximum withdrawalMinimum divides leap lengths monthLength real sameDate isOn firstOfGasYear lastOfMonth lastDate dayAfter total dayNumber weekday businessDay measurementDay onMeasurementDay termsInRange mddqOf bcqOf capacityOf staysOnFbs openingTooHigh retained daysOfInjection breaksV1 shareOf breaksV2 aboveMaximum belowMinimum stepOf firstStep isOver isUnder crosses measured settledStep falls breaksV3 withdrawalLimit breaksV4 breaksV5 breaksV6 breaksV7 breaksV8 cashOf endsExcuse excessOver carryOf forfeitOf maskOf pricesInRange cashInCharge cashOutCredit atInventoryCost billOf verdict byteAt wordAt entryOf usesA usesB largestFlag wordsUsed termsOf pricesOf processOnly wishes companySells accountTooHigh unusedSet someUnits wordsInRange lettersDiffer entryChecks entryNumber noTotals noMarks nobody fresh accountAt withBank withMonth withMarks withMeasure withCapacity withAccount totalsInRange stepInRange accountInRange everyAccount inRange quiet plain refused settle reworked termsNext termsChecks postTerms newAccount enrolled enrolChecks postEnrol withNet deliveryMarks delivered amountUnder afterDelivery deliverChecks postDeliver giver receiver transferChecks postTransfer withTrade traded afterTrade pastLimit tradeChecks postTrade measureMark remeasured afterMeasure measureChecks postMeasure withUsage usageMark metered afterUsage usageChecks postUsage limitOf violationsOf cashAt withCash dayMarks dayEnd dayClosed billAt nextCapacity forfeitAt monthMarks monthEnd monthClosed closedDay closedMonth notOpen closedAccount accountClosed reportOf wrongClosing complete staysInRange closingChecks closed postClosing standingChecks admission postKind postEntry posted openBank run bankOf
+unfolding nothing amountOf sum more less gap opposite positivePart inward outward above below within together percent noMoney charged credited added withinMills january february march april june august november december sameMonth gasMonth winter minimum maximum mmbq withdrawalMaximum withdrawalMinimum divides leap lengths monthLength real sameDate isOn firstOfGasYear lastOfMonth lastDate dayAfter total dayNumber weekday businessDay measurementDay onMeasurementDay termsInRange mddqOf bcqOf capacityOf staysOnFbs openingTooHigh retained daysOfInjection breaksV1 shareOf breaksV2 aboveMaximum belowMinimum stepOf firstStep isOver isUnder crosses measured settledStep falls breaksV3 withdrawalLimit breaksV4 breaksV5 breaksV6 breaksV7 breaksV8 cashOf endsExcuse excessOver carryOf forfeitOf maskOf pricesInRange cashInCharge cashOutCredit atInventoryCost billOf verdict byteAt wordAt entryOf usesA usesB largestFlag wordsUsed termsOf pricesOf processOnly wishes companySells accountTooHigh unusedSet someUnits wordsInRange wrongTransfer entryChecks entryNumber noTotals noMarks nobody fresh accountAt withBank withMonth withMarks withMeasure withCapacity withAccount totalsInRange stepInRange accountInRange everyAccount inRange quiet plain refused settle reworked termsNext termsChecks postTerms newAccount enrolled enrolChecks postEnrol withNet deliveryMarks delivered amountUnder afterDelivery deliverChecks postDeliver giver receiver transferChecks postTransfer withTrade traded afterTrade pastLimit tradeChecks postTrade measureMark remeasured afterMeasure measureChecks postMeasure withUsage usageMark metered afterUsage usageChecks postUsage limitOf violationsOf cashAt withCash dayMarks dayEnd dayClosed billAt nextCapacity forfeitAt monthMarks monthEnd monthClosed closedDay closedMonth notOpen closedAccount accountClosed reportOf wrongClosing complete staysInRange closingChecks closed postClosing standingChecks admission postKind postEntry posted openBank run bankOf
 all-nine =
     record {
       header = (refl, refl, refl);

@@ -16,8 +16,8 @@ unused-set-requires c κs = search needs
 words-in-range-requires : tie.Need-words-in-range-requires
 words-in-range-requires c κs = search needs
 
-letters-differ-requires : tie.Need-letters-differ-requires
-letters-differ-requires c κs = search needs
+wrong-transfer-requires : tie.Need-wrong-transfer-requires
+wrong-transfer-requires c κs = search needs
 
 refuse-requires : tie.Need-refuse-requires
 refuse-requires c κs = search needs
@@ -46,7 +46,7 @@ returns c = rw (
   c .before .before .before .refuse3 .ensures,
   c .before .before .before .before .refuse2 .ensures,
   c .before .before .before .before .before .refuse .ensures,
-  c .before .before .before .before .before .before .letters-differ .ensures,
+  c .before .before .before .before .before .before .wrong-transfer .ensures,
   c .before .before .before .before .before .before .before .words-in-range .ensures,
   c .before .before .before .before .before .before .before .before .unused-set .ensures,
   c .before .before .before .before .before .before .before .before .before .account-too-high .ensures,
@@ -61,7 +61,7 @@ number-spec =
     account-too-high-requires
     unused-set-requires
     words-in-range-requires
-    letters-differ-requires
+    wrong-transfer-requires
     refuse-requires
     refuse-requires-2
     refuse-requires-3
