@@ -12,3 +12,5 @@ pub mod OneStep
 pub mod StepKinds
 pub mod StepClosing
 pub mod Histories
+pub mod Fields
+pub mod Replaying

@@ -29,9 +29,10 @@ ghost use Rattle.ledger.specs.State.{fresh};
 ghost use Rattle.ledger.specs.Posting.{posted};
 ghost use Rattle.ledger.specs.Panel.{panelOf};
 ghost use Rattle.ledger.specs.MarkedCases.{MarkedCases};
-ghost use Rattle.ledger.specs.History.{BanksAddUp, PanelAddsUp, DebtsAddUp, DaysAddUp, StrikingChangesNothing};
+ghost use Rattle.ledger.specs.History.{bankOf, BanksAddUp, PanelAddsUp, DebtsAddUp, DaysAddUp, StrikingChangesNothing};
 use crate::answers::refused;
 use crate::entries::decode;
+use crate::panels::open_bank;
 use crate::panels::open_banks;
 use crate::postings::admission;
 use crate::postings::post_kind;
@@ -108,6 +109,17 @@ pub fn panel(ledger: Ledger) -> Panel
         number: 20,
         figure: Units(0),
     }
+}
+
+// An account's bank; 0 where it is not open, or where there is no such account.
+pub fn bank(ledger: Ledger, account: usize) -> Units
+    ensures { λ r. ⌜ r .0 ≡ bankOf ledger account ⌝ }
+{
+    if 16 <= account {
+        return Units::nothing();
+    }
+    let a = ledger.accounts[account];
+    open_bank(a)
 }
 
 // Demand 3, for every list of postings to a fresh ledger: specs/History.antt has each claim in words.

@@ -28,7 +28,7 @@ pub fn open_banks(l: Ledger) -> Units
     figure
 }
 
-fn open_bank(a: Account) -> Units
+pub fn open_bank(a: Account) -> Units
     ensures { λ r. ⌜ r .0 ≡ openBank a ⌝ }
     ensures bounded { λ r. ⌜ size r ≤ size (a .bank) ⌝ }
 {

@@ -40,7 +40,7 @@ impl Month {
     }
 
     // The place in the gas year, April 0 to March 11.
-    fn gas_month(self) -> usize
+    pub fn gas_month(self) -> usize
         ensures { λ r. ⌜ (r ≡ gasMonth self) × (r < 12) ⌝ }
     {
         ((self.0 % 12 + 8) % 12) as usize
