@@ -3,8 +3,13 @@ use Prim.Native.Nat.{ℕ, _+_}
 use mathlib.Core.Path.{_≡_, refl}
 use mathlib.Core.List.{List, [], _∷_}
 use Rattle.ledger.specs.Posting.{posted}
-use Rattle.ledger.specs.History.{Line, history, run, countOf}
+use lib.Dec.{eqb}
+use Rattle.ledger.specs.History.{Line, history, run, isAccepted, countOf}
 use Rattle.ledger.specs.declared.state.Ledger.{Ledger}
+
+pub accepted-by-number : (x : Line) → isAccepted x ≡ eqb (x .answer .number) 0
+unfolding isAccepted
+accepted-by-number x = refl
 
 pub run-none : (l : Ledger) → run l [] ≡ l
 unfolding run

@@ -1,0 +1,70 @@
+-- The reader's number of one entry: 0 where its form is right, and its place in its section too.
+use Prim.Native.Nat.{ℕ}
+use mathlib.Core.Path.{_≡_, refl, ap}
+use mathlib.Core.Bool.{Bool, true, false, cond, not, _&&_}
+use mathlib.Core.List.{List, [], _∷_}
+use native.Mathlib.Omega.{arith}
+use lib.Dec.{eqb}
+use lib.ListN.{length}
+use lib.Seq.{take-all}
+use borrow.Author.Tests.{eqb-true, eqb-false, not-false}
+use Rattle.ledger.specs.Entries.{entryOf, entryNumber, formNumber}
+use Rattle.archive.specs.Entries.{firstEntries, entriesOf, closesMonth}
+use Rattle.archive.specs.Reading.{misplaced, numberIn}
+
+-- ---- an entry alone
+
+form-case : (b : Bool) (n : ℕ) → cond b n 1 ≡ 0 → b ≡ true
+form-case true n h = refl
+form-case false n h = absurd (omega arith)
+
+-- an entry of the right form has 32 bytes
+pub form-length : (e : List ℕ) → formNumber e ≡ 0 → length e ≡ 32
+unfolding formNumber
+form-length e h = eqb-true (length e) 32 (form-case (eqb (length e) 32) (entryNumber (entryOf e)) h)
+
+pub one-entry : (e : List ℕ) → length e ≡ 32 → entriesOf e ≡ e ∷ []
+unfolding entriesOf firstEntries
+one-entry e h = rw h (ap (λ (l : List ℕ). l ∷ []) (take-all 32 e (omega arith)))
+
+-- ---- an entry's number: 0 where its form is right and its place too
+
+pub number-zero : (ends final : Bool) (e : List ℕ) → formNumber e ≡ 0 → misplaced ends final e ≡ false → numberIn ends final e ≡ 0
+unfolding numberIn
+number-zero ends final e f m = rw (f, m)
+
+number-case : (n : ℕ) (b m : Bool) → eqb n 0 ≡ b → cond b (cond m 10 0) n ≡ 0 → (n ≡ 0) × (m ≡ false)
+number-case n true true e h = absurd (omega arith)
+number-case n true false e h = (eqb-true n 0 e, refl)
+number-case n false m e h = absurd (eqb-false n 0 e h)
+
+pub number-parts : (ends final : Bool) (e : List ℕ) → numberIn ends final e ≡ 0 → (formNumber e ≡ 0) × (misplaced ends final e ≡ false)
+unfolding numberIn
+number-parts ends final e h = number-case (formNumber e) (eqb (formNumber e) 0) (misplaced ends final e) refl h
+
+-- ---- its place
+
+pub closing-ends : (final : Bool) (e : List ℕ) → closesMonth e ≡ true → misplaced true final e ≡ false
+unfolding misplaced
+closing-ends final e h = rw h
+
+pub other-ends : (e : List ℕ) → closesMonth e ≡ false → misplaced true true e ≡ false
+unfolding misplaced
+other-ends e h = rw h
+
+pub other-within : (final : Bool) (e : List ℕ) → closesMonth e ≡ false → misplaced false final e ≡ false
+unfolding misplaced
+other-within final e h = rw h
+
+within-case : (c : Bool) (final : Bool) → cond c (not false) (false && not final) ≡ false → c ≡ false
+within-case true final h = h
+within-case false final h = refl
+
+pub within-other : (final : Bool) (e : List ℕ) → misplaced false final e ≡ false → closesMonth e ≡ false
+unfolding misplaced
+within-other final e h = within-case (closesMonth e) final h
+
+-- only the last section ends otherwise
+pub ends-final : (final : Bool) (e : List ℕ) → misplaced true final e ≡ false → closesMonth e ≡ false → final ≡ true
+unfolding misplaced
+ends-final final e h k = not-false final (rw k at h)

@@ -1,0 +1,99 @@
+-- The first eight bytes: what the writer puts there, what the reader asks of them, and that the two agree.
+use Prim.Native.Nat.{ℕ, _+_, _*_, _/_, _%_, _<_, _≤_}
+use mathlib.Core.Path.{_≡_, refl}
+use mathlib.Core.Bool.{true, false}
+use mathlib.Core.List.{List, [], _∷_, _++_}
+use native.Mathlib.Omega.{arith}
+use lib.Dec.{eqb}
+use lib.ListN.{length, getD, take}
+use lib.Seq.{take-suc}
+use borrow.Author.Tests.{eqb-true, ltb-false, eq-eqb, le-ltb, not-false}
+use Rattle.tariff.proofs.Bools.{and-left, and-right, or-left, or-right}
+use Rattle.archive.specs.Words.{bytesOf, halfAt}
+use Rattle.archive.specs.Layout.{header, bodyAt}
+use Rattle.archive.specs.Reading.{sectionCount, rightOpening, wrongHeader}
+use Rattle.archive.specs.RoundTrips.{Bytes}
+use Rattle.archive.proofs.Numbers.{value-of-bytes, half-read}
+
+-- ---- as it is written
+
+pub length-header : (n : ℕ) → length (header n) ≡ 8
+unfolding header bytesOf
+length-header n = refl
+
+pub count-put : (n : ℕ) (rest : List ℕ) → n < 65536 → sectionCount (header n ++ rest) ≡ n
+unfolding sectionCount halfAt header bytesOf
+count-put n rest h = value-of-bytes 2 n (omega arith)
+
+pub opening-put : (n : ℕ) (rest : List ℕ) → rightOpening (header n ++ rest) ≡ true
+unfolding rightOpening header
+opening-put n rest = refl
+
+pub zeros-put : (n : ℕ) (rest : List ℕ) → (getD (header n ++ rest) 6 0 ≡ 0) × (getD (header n ++ rest) 7 0 ≡ 0)
+unfolding header bytesOf
+zeros-put n rest = (refl, refl)
+
+-- ---- as it is checked
+
+pub record Headed (a : List ℕ) : Type 0 where
+  pub long : 8 ≤ length a
+  pub short : length a ≤ 4294967295
+  pub opens : rightOpening a ≡ true
+  pub six : getD a 6 0 ≡ 0
+  pub seven : getD a 7 0 ≡ 0
+  pub few : sectionCount a ≤ 1200
+  pub room : bodyAt (sectionCount a) ≤ length a
+
+pub headed-right : (a : List ℕ) → Headed a → wrongHeader a ≡ false
+unfolding wrongHeader
+headed-right a h =
+    rw (le-ltb (length a) 8 (h .long), le-ltb 4294967295 (length a) (h .short), h .opens, eq-eqb (getD a 6 0) 0 (h .six), eq-eqb (getD a 7 0) 0 (h .seven), le-ltb 1200 (sectionCount a) (h .few), le-ltb (length a) (bodyAt (sectionCount a)) (h .room))
+
+pub header-checked : (a : List ℕ) → wrongHeader a ≡ false → Headed a
+unfolding wrongHeader
+header-checked a h =
+    record {
+      long = ltb-false (length a) 8 (search (or-left, or-right) depth 7);
+      short = ltb-false 4294967295 (length a) (search (or-left, or-right) depth 7);
+      opens = not-false (rightOpening a) (search (or-left, or-right) depth 7);
+      six = eqb-true (getD a 6 0) 0 (not-false (eqb (getD a 6 0) 0) (search (or-left, or-right) depth 7));
+      seven = eqb-true (getD a 7 0) 0 (not-false (eqb (getD a 7 0) 0) (search (or-left, or-right) depth 7));
+      few = ltb-false 1200 (sectionCount a) (search (or-left, or-right) depth 7);
+      room = ltb-false (length a) (bodyAt (sectionCount a)) (search (or-left, or-right) depth 7);
+    }
+
+-- the sizes alone, as loops over the directory need them
+pub record Measured (a : List ℕ) : Type 0 where
+  pub long : 8 ≤ length a
+  pub short : length a ≤ 4294967295
+  pub few : sectionCount a ≤ 1200
+  pub room : 8 + 8 * sectionCount a ≤ length a
+
+pub measured : (a : List ℕ) → wrongHeader a ≡ false → Measured a
+unfolding bodyAt
+measured a h =
+    let k = header-checked a h in record { long = k .long; short = k .short; few = k .few; room = k .room }
+
+-- ---- the one is the other
+
+opening-bytes : (a : List ℕ) → rightOpening a ≡ true → (getD a 0 0 ≡ 69) × (getD a 1 0 ≡ 70) × (getD a 2 0 ≡ 66) × (getD a 3 0 ≡ 49)
+unfolding rightOpening
+opening-bytes a h = (
+  eqb-true (getD a 0 0) 69 (search (and-left, and-right)),
+  eqb-true (getD a 1 0) 70 (search (and-left, and-right)),
+  eqb-true (getD a 2 0) 66 (search (and-left, and-right)),
+  eqb-true (getD a 3 0) 49 (search (and-left, and-right)),
+)
+
+eight : (a : List ℕ) → 8 ≤ length a
+    → take 8 a ≡ getD a 0 0 ∷ getD a 1 0 ∷ getD a 2 0 ∷ getD a 3 0 ∷ getD a 4 0 ∷ getD a 5 0 ∷ getD a 6 0 ∷ getD a 7 0 ∷ []
+eight a h =
+    rw (take-suc a 7 0 (omega arith), take-suc a 6 0 (omega arith), take-suc a 5 0 (omega arith), take-suc a 4 0 (omega arith), take-suc a 3 0 (omega arith), take-suc a 2 0 (omega arith), take-suc a 1 0 (omega arith), take-suc a 0 0 (omega arith))
+
+pub header-again : (a : List ℕ) → Bytes a → Headed a → header (sectionCount a) ≡ take 8 a
+unfolding header bytesOf sectionCount
+header-again a b h =
+    let o : (getD a 0 0 ≡ 69) × (getD a 1 0 ≡ 70) × (getD a 2 0 ≡ 66) × (getD a 3 0 ≡ 49) = opening-bytes a (h .opens) in
+    let low : halfAt a 4 % 256 ≡ getD a 4 0 = rw (half-read a 4 (omega (arith, h .long))) (omega (arith, b 4, b 5)) in
+    let high : halfAt a 4 / 256 % 256 ≡ getD a 5 0 = rw (half-read a 4 (omega (arith, h .long))) (omega (arith, b 4, b 5)) in
+    rw (eight a (h .long), o .0, o .1, o .2, o .3, h .six, h .seven, low, high)

@@ -1,0 +1,110 @@
+-- Sections through their archive and back: what is packed is read as it was, and an archive that is read is what is packed of its parts.
+use Prim.Native.Nat.{ℕ, zero, suc, _+_, _*_, _≤_}
+use mathlib.Core.Path.{_≡_, refl, sym, ap, _∙_}
+use mathlib.Core.Bool.{true, false}
+use mathlib.Core.List.{List, _++_, append-assoc}
+use native.Mathlib.Omega.{arith}
+use lib.ListN.{length, take, drop, length-append, take-append-drop, length-map}
+use lib.Seq.{drop-at, take-add}
+use Rattle.archive.specs.Layout.{together, header, directory, bodyAt, packed}
+use Rattle.archive.specs.Reading.{sectionCount, wrongHeader, pairsFrom, pairsOf, rightDirectory, partAt, partsOf, listOf}
+use Rattle.archive.specs.RoundTrips.{Bytes}
+use Rattle.archive.proofs.Partitions.{Good}
+use Rattle.archive.proofs.Headers.{length-header, count-put, opening-put, zeros-put, Headed, headed-right, header-checked, header-again}
+use Rattle.archive.proofs.Directories.{pairsFor, length-directory, pairs-put, directory-again}
+use Rattle.archive.proofs.Stretches.{right-for, parts-for, Parted, parted}
+
+-- ---- packed, then read
+
+-- all before the sections
+abbrev front : List (List ℕ) → List ℕ
+front ss = header (length ss) ++ directory (bodyAt (length ss)) ss
+
+length-front : (ss : List (List ℕ)) → length (front ss) ≡ bodyAt (length ss)
+unfolding bodyAt
+length-front ss = length-append (header (length ss)) (directory (8 + 8 * length ss) ss) ∙ rw (length-header, length-directory)
+
+pub length-packed : (ss : List (List ℕ)) → length (packed ss) ≡ bodyAt (length ss) + length (together ss)
+unfolding packed
+length-packed ss = length-append (front ss) (together ss) ∙ rw (length-front ss)
+
+-- the header, then the rest
+headed-packed : (ss : List (List ℕ)) → packed ss ≡ header (length ss) ++ (directory (bodyAt (length ss)) ss ++ together ss)
+unfolding packed
+headed-packed ss = append-assoc (header (length ss)) (directory (bodyAt (length ss)) ss) (together ss)
+
+module _ (ss : List (List ℕ)) (good : Good ss) (few : length ss ≤ 1200) (short : length (packed ss) ≤ 4294967295) where
+  abbrev rest : List ℕ
+  rest = directory (bodyAt (length ss)) ss ++ together ss
+
+  pub count-packed : sectionCount (packed ss) ≡ length ss
+  count-packed = ap sectionCount (headed-packed ss) ∙ count-put (length ss) rest (omega arith)
+
+  pub header-packed : wrongHeader (packed ss) ≡ false
+  unfolding bodyAt
+  header-packed =
+      headed-right (packed ss)
+      (record {
+        long = omega (arith, length-packed ss);
+        short = short;
+        opens = rw (headed-packed ss) (opening-put (length ss) rest);
+        six = rw (headed-packed ss) (zeros-put (length ss) rest .0);
+        seven = rw (headed-packed ss) (zeros-put (length ss) rest .1);
+        few = rw count-packed few;
+        room = rw count-packed (omega (arith, length-packed ss));
+      })
+
+  pairs-packed : pairsOf (packed ss) ≡ pairsFor (bodyAt (length ss)) ss
+  unfolding pairsOf
+  pairs-packed =
+      rw count-packed
+      (pairs-put ss (packed ss) (header (length ss)) (together ss) (bodyAt (length ss)) 0 (headed-packed ss) (length-header (length ss)) (omega (arith, length-packed ss)))
+
+  pub directory-packed : rightDirectory (packed ss) ≡ true
+  unfolding rightDirectory
+  directory-packed = rw (count-packed, pairs-packed) (right-for ss (bodyAt (length ss)) (length (packed ss)) good (sym (length-packed ss)))
+
+  pub parts-packed : partsOf (packed ss) ≡ ss
+  unfolding partsOf packed
+  parts-packed = rw pairs-packed (parts-for ss (packed ss) (front ss) (bodyAt (length ss)) refl (length-front ss))
+
+  pub list-packed : listOf (packed ss) ≡ together ss
+  unfolding listOf packed
+  list-packed = rw count-packed (drop-at (front ss) (together ss) (bodyAt (length ss)) (length-front ss))
+
+-- ---- read, then packed
+
+length-pairs : (a : List ℕ) (i n : ℕ) → length (pairsFrom a i n) ≡ n
+unfolding pairsFrom
+length-pairs a i zero = refl
+length-pairs a i (suc n) = ap suc (length-pairs a (i + 1) n)
+
+module _ (a : List ℕ) (right : rightDirectory a ≡ true) where
+  pub count-parts : length (partsOf a) ≡ sectionCount a
+  unfolding partsOf pairsOf
+  count-parts = length-map (pairsFrom a 0 (sectionCount a)) (partAt a) ∙ length-pairs a 0 (sectionCount a)
+
+  in-parts : Parted a (bodyAt (sectionCount a)) (pairsOf a)
+  unfolding rightDirectory
+  in-parts = parted a (pairsOf a) (bodyAt (sectionCount a)) right
+
+  pub parts-good : Good (partsOf a)
+  unfolding partsOf
+  parts-good = in-parts .good
+
+  pub list-parts : together (partsOf a) ≡ listOf a
+  unfolding partsOf listOf
+  list-parts = in-parts .all
+
+  pairs-again : pairsFrom a 0 (length (partsOf a)) ≡ pairsFor (bodyAt (sectionCount a)) (partsOf a)
+  unfolding partsOf pairsOf
+  pairs-again = rw count-parts (in-parts .named)
+
+  pub packed-again : Bytes a → wrongHeader a ≡ false → packed (partsOf a) ≡ a
+  unfolding packed listOf bodyAt
+  packed-again b w =
+      let h : Headed a = header-checked a w in
+      let n : ℕ = sectionCount a in
+      let room : 8 + 8 * 0 + 8 * length (partsOf a) ≤ length a = rw count-parts (h .room) in
+      let dir : directory (8 + 8 * n) (partsOf a) ≡ take (8 * n) (drop 8 a) = rw count-parts at (directory-again a (8 + 8 * n) 0 (partsOf a) b room pairs-again) in
+      rw (count-parts, header-again a b h, dir, list-parts, ← take-add 8 (8 * n) a) (take-append-drop (8 + 8 * n) a)

@@ -1,0 +1,157 @@
+-- Sections against the entries that they hold: what the writer cuts passes the reader's check, and what passes is so cut.
+use Prim.Native.Nat.{ℕ, suc, _/_, _%_, _<_}
+use mathlib.Core.Path.{_≡_, refl, ap, _∙_}
+use mathlib.Core.Bool.{Bool, true, false, cond}
+use mathlib.Core.List.{List, [], _∷_, _++_, map, map-append, append-assoc, append-nil}
+use native.Mathlib.Omega.{arith}
+use lib.Dec.{eqb, eqb·suc-zero}
+use lib.ListN.{length, length-append}
+use borrow.Author.Tests.{eqb-true, ne-eqb}
+use Rattle.ledger.specs.Entries.{formNumber}
+use Rattle.archive.specs.Entries.{firstEntries, entriesOf, closesMonth}
+use Rattle.archive.specs.Layout.{joined, sectionsOf, together}
+use Rattle.archive.specs.Reading.{misplaced, numbersIn, numbersOf}
+use Rattle.archive.proofs.EntryLists.{length-entries, together-all, entries-of-append}
+use Rattle.archive.proofs.Splits.{no-sections}
+use Rattle.archive.proofs.Refusals.{Zeros, zeros-append, zeros-left, zeros-right}
+use Rattle.archive.proofs.EntryNumbers.{form-length, one-entry, number-zero, number-parts, closing-ends, other-ends, other-within, within-other, ends-final}
+
+-- ---- sections of whole entries, and not of none
+
+pub record Sized (s : List ℕ) : Type 0 where
+  pub some : 0 < length s
+  pub whole : length s % 32 ≡ 0
+
+abbrev pub Good : List (List ℕ) → Type 0
+Good [] = Unit {0}
+Good (s ∷ ss) = Sized s × Good ss
+
+-- as the reader finds them right
+pub record Sound (ss : List (List ℕ)) : Type 0 where
+  pub good : Good ss
+  pub zeros : Zeros (numbersOf ss)
+
+count-entries : (s : List ℕ) → length (entriesOf s) ≡ length s / 32
+unfolding entriesOf
+count-entries s = length-entries (length s / 32) s
+
+-- ---- the writer's sections
+
+entry-sized : (e : List ℕ) → length e ≡ 32 → Sized e
+entry-sized e h = record { some = omega arith; whole = rw h }
+
+closed : (e : List ℕ) (ss : List (List ℕ)) → closesMonth e ≡ true → formNumber e ≡ 0 → Sound ss → Sound (e ∷ ss)
+unfolding numbersOf numbersIn
+closed e ss k f h =
+    let size : length e ≡ 32 = form-length e f in
+    record {
+      good = (entry-sized e size, h .good);
+      zeros = rw (one-entry e size) (number-zero true (eqb (length ss) 0) e f (closing-ends (eqb (length ss) 0) e k), h .zeros);
+    }
+
+joined-sized : (e s : List ℕ) → length e ≡ 32 → Sized s → Sized (e ++ s)
+joined-sized e s h k = record { some = rw length-append (omega arith); whole = rw length-append (omega arith) }
+
+joined-sound : (e : List ℕ) (ss : List (List ℕ)) → closesMonth e ≡ false → formNumber e ≡ 0 → Sound ss → Sound (joined e ss)
+unfolding joined numbersOf numbersIn
+joined-sound e [] k f h =
+    let size : length e ≡ 32 = form-length e f in
+    record {
+      good = (entry-sized e size, tt);
+      zeros = rw (one-entry e size) (number-zero true true e f (other-ends e k), tt);
+    }
+joined-sound e (s ∷ ss) k f h =
+    let size : length e ≡ 32 = form-length e f in
+    let final : Bool = eqb (length ss) 0 in
+    let split : entriesOf (e ++ s) ≡ e ∷ entriesOf s = entries-of-append e s (rw size) ∙ ap (λ (l : List (List ℕ)). l ++ entriesOf s) (one-entry e size) in
+    let more : eqb (length (entriesOf s)) 0 ≡ false = ne-eqb (length (entriesOf s)) 0 (λ z. omega (arith, count-entries s, h .good .0)) in
+    record {
+      good = (joined-sized e s size (h .good .0), h .good .1);
+      zeros = rw (split, more) (number-zero false final e f (other-within final e k), h .zeros);
+    }
+
+cut-case : (e : List ℕ) (ss : List (List ℕ)) (b : Bool) → closesMonth e ≡ b → formNumber e ≡ 0 → Sound ss → Sound (cond b (e ∷ ss) (joined e ss))
+cut-case e ss true k f h = closed e ss k f h
+cut-case e ss false k f h = joined-sound e ss k f h
+
+-- entries of the right form make sections that the reader finds right
+pub cut-sound : (es : List (List ℕ)) → Zeros (map formNumber es) → Sound (sectionsOf es)
+unfolding sectionsOf numbersOf
+cut-sound [] h = record { good = tt; zeros = tt }
+cut-sound (e ∷ es) h = cut-case e (sectionsOf es) (closesMonth e) refl (h .0) (cut-sound es (h .1))
+
+-- and lose nothing
+joined-together : (e : List ℕ) (ss : List (List ℕ)) → together (joined e ss) ≡ e ++ together ss
+unfolding joined together
+joined-together e [] = refl
+joined-together e (s ∷ ss) = append-assoc e s (together ss)
+
+together-case : (e : List ℕ) (ss : List (List ℕ)) (b : Bool) → together (cond b (e ∷ ss) (joined e ss)) ≡ e ++ together ss
+unfolding together
+together-case e ss true = refl
+together-case e ss false = joined-together e ss
+
+pub together-sections : (es : List (List ℕ)) → together (sectionsOf es) ≡ together es
+unfolding sectionsOf together
+together-sections [] = refl
+together-sections (e ∷ es) = together-case e (sectionsOf es) (closesMonth e) ∙ ap (λ (l : List ℕ). e ++ l) (together-sections es)
+
+-- ---- the reader's sections
+
+-- the last entry of a section, and the sections after it
+last-case : (e : List ℕ) (ss : List (List ℕ)) (b : Bool) → closesMonth e ≡ b → misplaced true (eqb (length ss) 0) e ≡ false → cond b (e ∷ ss) (joined e ss) ≡ e ∷ ss
+unfolding joined
+last-case e ss true k m = refl
+last-case e [] false k m = refl
+last-case e (s ∷ ss) false k m = let z : suc (length ss) ≡ 0 = eqb-true (suc (length ss)) 0 (ends-final (eqb (suc (length ss)) 0) e m k) in absurd (omega arith)
+
+-- the entries of a section, then others
+section-first : (e : List ℕ) (es fs ss : List (List ℕ)) → sectionsOf fs ≡ ss → Zeros (numbersIn (eqb (length ss) 0) (e ∷ es)) → sectionsOf ((e ∷ es) ++ fs) ≡ together (e ∷ es) ∷ ss
+unfolding sectionsOf numbersIn together joined
+section-first e [] fs ss q h =
+    let m : misplaced true (eqb (length ss) 0) e ≡ false = number-parts true (eqb (length ss) 0) e (h .0) .1 in
+    rw (q, append-nil e) (last-case e ss (closesMonth e) refl m)
+section-first e (f ∷ es) fs ss q h =
+    let k : closesMonth e ≡ false = within-other (eqb (length ss) 0) e (number-parts false (eqb (length ss) 0) e (rw (eqb·suc-zero (length es)) at (h .0)) .1) in
+    rw k (ap (joined e) (section-first f es fs ss q (h .1)))
+
+no-entries : entriesOf [] ≡ []
+unfolding entriesOf firstEntries
+no-entries = refl
+
+-- the entries of a section are some
+section-then : (s : List ℕ) (fs ss es : List (List ℕ)) → Sized s → entriesOf s ≡ es → sectionsOf fs ≡ ss → Zeros (numbersIn (eqb (length ss) 0) es) → sectionsOf (es ++ fs) ≡ together es ∷ ss
+section-then s fs ss [] g e q h = absurd (omega (arith, count-entries s, ap length e))
+section-then s fs ss (f ∷ es) g e q h = section-first f es fs ss q h
+
+-- sections that the reader finds right are those of their entries
+pub sections-again : (ss : List (List ℕ)) → Good ss → Zeros (numbersOf ss) → sectionsOf (entriesOf (together ss)) ≡ ss
+unfolding together numbersOf
+sections-again [] g h = no-sections [] refl
+sections-again (s ∷ ss) g h =
+    let here : Zeros (numbersIn (eqb (length ss) 0) (entriesOf s)) = zeros-left (numbersIn (eqb (length ss) 0) (entriesOf s)) (numbersOf ss) h in
+    let rest : sectionsOf (entriesOf (together ss)) ≡ ss = sections-again ss (g .1) (zeros-right (numbersIn (eqb (length ss) 0) (entriesOf s)) (numbersOf ss) h) in
+    ap sectionsOf (entries-of-append s (together ss) (g .0 .whole))
+    ∙ section-then s (entriesOf (together ss)) ss (entriesOf s) (g .0) refl rest here
+    ∙ ap (λ (l : List ℕ). l ∷ ss) (together-all s (g .0 .whole))
+
+forms-in : (final : Bool) (es : List (List ℕ)) → Zeros (numbersIn final es) → Zeros (map formNumber es)
+unfolding numbersIn
+forms-in final [] h = tt
+forms-in final (e ∷ es) h = (number-parts (eqb (length es) 0) final e (h .0) .0, forms-in final es (h .1))
+
+-- and these are of the right form
+pub forms-right : (ss : List (List ℕ)) → Good ss → Zeros (numbersOf ss) → Zeros (map formNumber (entriesOf (together ss)))
+unfolding together numbersOf
+forms-right [] g h = rw no-entries tt
+forms-right (s ∷ ss) g h =
+    let final : Bool = eqb (length ss) 0 in
+    rw (entries-of-append s (together ss) (g .0 .whole), map-append)
+    (zeros-append (map formNumber (entriesOf s)) (map formNumber (entriesOf (together ss))) (forms-in final (entriesOf s) (zeros-left (numbersIn final (entriesOf s)) (numbersOf ss) h))
+    (forms-right ss (g .1) (zeros-right (numbersIn final (entriesOf s)) (numbersOf ss) h)))
+
+-- their bytes are whole entries
+pub together-whole : (ss : List (List ℕ)) → Good ss → length (together ss) % 32 ≡ 0
+unfolding together
+together-whole [] g = refl
+together-whole (s ∷ ss) g = rw length-append (omega (arith, together-whole ss (g .1), g .0 .whole))

@@ -1,0 +1,44 @@
+-- What a check of many numbers tells: none is refused where all are 0, and only there.
+use Prim.Native.Nat.{ℕ, _+_}
+use mathlib.Core.Path.{_≡_, refl}
+use mathlib.Core.Bool.{Bool, true, false, cond}
+use mathlib.Core.List.{List, [], _∷_, _++_}
+use lib.Dec.{eqb}
+use borrow.Author.Tests.{eqb-true, eqb-false}
+use Rattle.archive.specs.Entries.{finding, firstRefusal}
+use Rattle.archive.specs.declared.entries.Checked.{Checked}
+
+-- each of them is 0
+abbrev pub Zeros : List ℕ → Type 0
+Zeros [] = Unit {0}
+Zeros (n ∷ ns) = (n ≡ 0) × Zeros ns
+
+pub zeros-append : (ns ms : List ℕ) → Zeros ns → Zeros ms → Zeros (ns ++ ms)
+zeros-append [] ms h k = k
+zeros-append (n ∷ ns) ms h k = (h .0, zeros-append ns ms (h .1) k)
+
+pub zeros-left : (ns ms : List ℕ) → Zeros (ns ++ ms) → Zeros ns
+zeros-left [] ms h = tt
+zeros-left (n ∷ ns) ms h = (h .0, zeros-left ns ms (h .1))
+
+pub zeros-right : (ns ms : List ℕ) → Zeros (ns ++ ms) → Zeros ms
+zeros-right [] ms h = h
+zeros-right (n ∷ ns) ms h = zeros-right ns ms (h .1)
+
+pub none-refused : (i : ℕ) (ns : List ℕ) → Zeros ns → firstRefusal i ns ≡ finding 0 0
+unfolding firstRefusal
+none-refused i [] h = refl
+none-refused i (n ∷ ns) h = rw (h .0) (none-refused (i + 1) ns (h .1))
+
+-- of the first number and the rest
+first-zero : (n i : ℕ) (rest : Checked) (b : Bool) → eqb n 0 ≡ b → cond b rest (finding n i) .number ≡ 0 → (n ≡ 0) × (rest .number ≡ 0)
+unfolding finding
+first-zero n i rest true e h = (eqb-true n 0 e, h)
+first-zero n i rest false e h = absurd (eqb-false n 0 e h)
+
+pub all-zero : (i : ℕ) (ns : List ℕ) → firstRefusal i ns .number ≡ 0 → Zeros ns
+unfolding firstRefusal
+all-zero i [] h = tt
+all-zero i (n ∷ ns) h =
+    let k : (n ≡ 0) × (firstRefusal (i + 1) ns .number ≡ 0) = first-zero n i (firstRefusal (i + 1) ns) (eqb n 0) refl h in
+    (k .0, all-zero (i + 1) ns (k .1))

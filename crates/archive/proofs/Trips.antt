@@ -1,0 +1,96 @@
+-- Both round trips: a list that is written reads back, and an archive that is read is written again.
+use Prim.Native.Nat.{ℕ, _<_, _≤_}
+use mathlib.Core.Path.{_≡_, sym, ap, _∙_}
+use mathlib.Core.List.{List, []}
+use native.Mathlib.Nat.{zero-add}
+use lib.ListN.{length, getD}
+use borrow.Author.Tests.{lt-ltb}
+use Rattle.archive.specs.Entries.{entriesOf, finding}
+use Rattle.archive.specs.Layout.{sectionsOf, together, packed, archiveOf}
+use Rattle.archive.specs.Reading.{sectionCount, pairAt, pairsOf, partAt, partsOf, checked, placeOf, sectionAt, listOf}
+use Rattle.archive.specs.RoundTrips.{Bytes, Read, ReadsBack, Remade, WritesBack}
+use Rattle.archive.proofs.EntryLists.{together-all}
+use Rattle.archive.proofs.Partitions.{Sound, cut-sound, together-sections, sections-again, forms-right, together-whole}
+use Rattle.archive.proofs.Headers.{Headed, header-checked}
+use Rattle.archive.proofs.Stretches.{part-at}
+use Rattle.archive.proofs.Acceptance.{Writable, written-tells, writable-written, Readable, checked-tells, readable-checked}
+use Rattle.archive.proofs.Packing.{count-packed, header-packed, directory-packed, parts-packed, list-packed, count-parts, parts-good, list-parts, packed-again}
+
+-- a section of an accepted archive is its part
+section-part : (a : List ℕ) (i : ℕ) → checked a ≡ finding 0 0 → i < sectionCount a → sectionAt a i ≡ getD (partsOf a) i []
+unfolding sectionAt placeOf finding partsOf pairsOf partAt
+section-part a i c h = rw (c, lt-ltb i (sectionCount a) h) (sym (part-at a (sectionCount a) 0 i h ∙ ap (λ (k : ℕ). partAt a (pairAt a k)) (zero-add i)))
+
+-- ---- a list, written and read
+
+module _ (list : List ℕ) (w : Writable list) where
+  abbrev ss : List (List ℕ)
+  ss = sectionsOf (entriesOf list)
+
+  sound : Sound ss
+  sound = cut-sound (entriesOf list) (w .forms)
+
+  all-back : together ss ≡ list
+  all-back = together-sections (entriesOf list) ∙ together-all list (w .whole)
+
+  short : length (packed ss) ≤ 4294967295
+  unfolding archiveOf
+  short = w .short
+
+  readable : Readable (packed ss)
+  readable =
+      record {
+        headed = header-packed ss (sound .good) (w .few) short;
+        directed = directory-packed ss (sound .good) (w .few) short;
+        zeros = rw (parts-packed ss (sound .good) (w .few) short) (sound .zeros);
+      }
+
+  count : sectionCount (packed ss) ≡ length ss
+  count = count-packed ss (sound .good) (w .few) short
+
+  read : Read list
+  unfolding archiveOf
+  read =
+      record {
+        accepted = readable-checked (packed ss) readable;
+        whole = list-packed ss (sound .good) (w .few) short ∙ all-back;
+        count = count;
+        sections = λ i h. section-part (packed ss) i (readable-checked (packed ss) readable) (rw count h) ∙ ap (λ (l : List (List ℕ)). getD l i []) (parts-packed ss (sound .good) (w .few) short);
+        joined = all-back;
+      }
+
+pub reads-back : ReadsBack
+reads-back list room h = read list (written-tells list room h)
+
+-- ---- an archive, read and written
+
+module _ (a : List ℕ) (b : Bytes a) (r : Readable a) where
+  headed : Headed a
+  headed = header-checked a (r .headed)
+
+  cut-again : sectionsOf (entriesOf (listOf a)) ≡ partsOf a
+  cut-again = rw (list-parts a (r .directed)) at (sections-again (partsOf a) (parts-good a (r .directed)) (r .zeros))
+
+  same : archiveOf (listOf a) ≡ a
+  unfolding archiveOf
+  same = ap packed cut-again ∙ packed-again a (r .directed) b (r .headed)
+
+  writable : Writable (listOf a)
+  writable =
+      record {
+        whole = rw (list-parts a (r .directed)) at (together-whole (partsOf a) (parts-good a (r .directed)));
+        forms = rw (list-parts a (r .directed)) at (forms-right (partsOf a) (parts-good a (r .directed)) (r .zeros));
+        few = rw (cut-again, count-parts a (r .directed)) (headed .few);
+        short = rw same (headed .short);
+      }
+
+  remade : Remade a
+  remade =
+      record {
+        same = same;
+        answer = λ room h. rw same at (writable-written (listOf a) room writable (rw same h));
+        fits = headed .short;
+      }
+
+pub writes-back : WritesBack
+writes-back a b h = remade a b (checked-tells a h)

@@ -1,0 +1,32 @@
+use mathlib.Core.Path.{ap}
+use Rattle.ledger.specs.declared.panels.Panel.{Panel}
+use Rattle.ledger.proofs.Histories.{banks-add-up, panel-adds-up, debts-add-up, days-add-up, striking-changes-nothing}
+use Rattle.archive.specs.Replay.{heldBy, replayed, figuresOf, BanksAddUp, FigureAddsUp, DebtsAddUp, DaysAddUp, StrikingChangesNothing}
+use Rattle.archive.proofs.every_archive.Statement.{statement}
+use Rattle.archive.proofs.every_archive.Tie as tie
+
+banks : BanksAddUp
+unfolding replayed
+banks a = banks-add-up (heldBy a)
+
+figure : FigureAddsUp
+unfolding replayed figuresOf
+figure a = ap (λ (p : Panel). p .figure) (panel-adds-up (heldBy a))
+
+debts : DebtsAddUp
+unfolding replayed
+debts a = debts-add-up (heldBy a)
+
+days : DaysAddUp
+unfolding replayed
+days a = days-add-up (heldBy a)
+
+struck : StrikingChangesNothing
+unfolding replayed
+struck a = striking-changes-nothing (heldBy a)
+
+returns : tie.Need-returns
+returns c = (banks, (figure, (debts, (days, struck))))
+
+pub every-archive-spec : {M : Type 1} → statement M
+every-archive-spec = tie.close (tie.spec returns)

@@ -1,0 +1,125 @@
+use borrow.Author.Needs.{needs}
+use native.Mathlib.Omega.{arith}
+use Prim.Native.Nat.{_+_, _*_, _-_, _/_, _≤_}
+use mathlib.Core.Path.{_≡_, refl, sym, ap, _∙_}
+use lib.Dec.{eqb}
+use lib.ListN.{length, take, drop}
+use Rattle.archive.specs.Reading.{numberIn, numbersIn}
+use Rattle.archive.specs.Entries.{entriesOf, firstEntries, finding, firstRefusal}
+use Rattle.archive.proofs.Numbering.{numbers-next, no-numbers}
+use Rattle.archive.proofs.Findings.{refusal-none, refusal-here, refusal-later}
+use Rattle.archive.proofs.EntryLists.{entries-none}
+use Rattle.archive.proofs.reading.check_section.Statement.{statement}
+use Rattle.archive.proofs.reading.check_section.Tie as tie
+
+abbrev Inv-loop : tie.InvT-loop
+Inv-loop section first last n k₀ k = (k ≤ n) × (n ≡ length section / 32) × (firstRefusal (first + k) (numbersIn last (firstEntries (n - k) (drop (32 * k) section))) ≡ firstRefusal first (numbersIn last (entriesOf section)))
+
+abbrev μ-loop : tie.MeasureT-loop
+μ-loop section first last n k₀ k = n - k
+
+loop-holds : tie.Need-loop-holds Inv-loop μ-loop
+unfolding entriesOf
+loop-holds c =
+    let s = c .before .args .section .now in
+    let first = c .before .args .first in
+    let z : length s / 32 - 0 ≡ length s / 32 = omega arith in
+    let i : first + 0 ≡ first = omega arith in
+    (search needs, refl, rw (z, i))
+
+mul-at : tie.Need-mul-at Inv-loop μ-loop
+mul-at c = search needs
+
+add-end : tie.Need-add-end Inv-loop μ-loop
+add-end c = search needs
+
+add-ends : tie.Need-add-ends Inv-loop μ-loop
+add-ends c = search needs
+
+sub-number-in : tie.Need-sub-number-in Inv-loop μ-loop
+sub-number-in c = search needs
+
+part-number-in-start : tie.Need-part-number-in-start Inv-loop μ-loop
+part-number-in-start c = search needs
+
+part-number-in-end : tie.Need-part-number-in-end Inv-loop μ-loop
+part-number-in-end c = search needs
+
+number-in-requires : tie.Need-number-in-requires Inv-loop μ-loop
+number-in-requires c κs = search needs
+
+add-t16 : tie.Need-add-t16 Inv-loop μ-loop
+add-t16 c = search needs
+
+returns : tie.Need-returns Inv-loop μ-loop
+unfolding finding
+returns c =
+    let l = c .before .before .before .before in
+    let s = l .before .before .args .section .now in
+    let k = l .loop .k in
+    let first = l .before .before .args .first in
+    let last = l .before .before .args .last in
+    let n = length s / 32 in
+    let e = take (32 * k + 32 - 32 * k) (drop (32 * k) s) in
+    let number = c .before .number-in .ensures in
+    ap (λ x. finding x (first + k)) number
+    ∙ sym (refusal-here (first + k) (numberIn (eqb (k + 1) n) last e) (numbersIn last (firstEntries (n - (k + 1)) (drop (32 * (k + 1)) s))) (λ z. c .if1 .taken (number ∙ z)))
+    ∙ ap (firstRefusal (first + k)) (sym (numbers-next last n k s (omega arith)))
+    ∙ l .loop .inv .2
+
+add-k : tie.Need-add-k Inv-loop μ-loop
+add-k c = search needs
+
+loop-less : tie.Need-loop-less Inv-loop μ-loop
+loop-less c = search needs
+
+loop-again : tie.Need-loop-again Inv-loop μ-loop
+loop-again c =
+    let l = c .before .before .before .before in
+    let s = l .before .before .args .section .now in
+    let k = l .loop .k in
+    let first = l .before .before .args .first in
+    let last = l .before .before .args .last in
+    let n = length s / 32 in
+    let e = take (32 * k + 32 - 32 * k) (drop (32 * k) s) in
+    let more = numbersIn last (firstEntries (n - (k + 1)) (drop (32 * (k + 1)) s)) in
+    let j : first + (k + 1) ≡ first + k + 1 = omega arith in (
+      omega arith,
+      refl,
+      rw j
+          (sym (refusal-later (first + k) (numberIn (eqb (k + 1) n) last e) more (sym (c .before .number-in .ensures) ∙ c .if1 .left))
+          ∙ ap (firstRefusal (first + k)) (sym (numbers-next last n k s (omega arith)))
+          ∙ l .loop .inv .2),
+    )
+
+returns-2 : tie.Need-returns-2 Inv-loop μ-loop
+unfolding finding
+returns-2 c =
+    let l = c .before in
+    let s = l .before .before .args .section .now in
+    let i = l .before .before .args .first + l .loop .k in
+    let last = l .before .before .args .last in
+    sym (refusal-none i)
+    ∙ ap (firstRefusal i) (sym (ap (numbersIn last) (entries-none (length s / 32) (l .loop .k) (drop (32 * l .loop .k) s) (omega arith)) ∙ no-numbers last))
+    ∙ l .loop .inv .2
+
+pub check-section-spec : {M : Type 1} → statement M
+check-section-spec =
+    tie.close
+    (tie.spec
+    Inv-loop
+    μ-loop
+    loop-holds
+    mul-at
+    add-end
+    add-ends
+    sub-number-in
+    part-number-in-start
+    part-number-in-end
+    number-in-requires
+    add-t16
+    returns
+    add-k
+    loop-less
+    loop-again
+    returns-2)

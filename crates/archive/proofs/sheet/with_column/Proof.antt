@@ -1,0 +1,76 @@
+use Rattle.archive.proofs.Grids.{filled, filled-none, filled-next, filled-all}
+use Rattle.archive.specs.YearSheet.{grid, cellAt, bankIn}
+use lib.IntN.{ℤ}
+use lib.ListN.{set, getD}
+use mathlib.Core.List.{[]}
+use mathlib.Core.Path.{_≡_, ap, _∙_}
+use Prim.Native.Nat.{_-_, _≤_}
+use native.Mathlib.Omega.{arith}
+use borrow.Author.Needs.{needs}
+use Rattle.archive.proofs.sheet.with_column.Statement.{statement}
+use Rattle.archive.proofs.sheet.with_column.Tie as tie
+
+abbrev Inv-loop : tie.InvT-loop
+Inv-loop ledger month next₀ i₀ next i = (i ≤ 16) × (next ≡ grid (filled (bankIn ledger) (cellAt next₀) month i))
+
+abbrev μ-loop : tie.MeasureT-loop
+μ-loop ledger month next₀ i₀ next i = 16 - i
+
+loop-holds : tie.Need-loop-holds Inv-loop μ-loop
+loop-holds c =
+    let a = c .args in
+    (search needs, c .pre .0 ∙ filled-none (bankIn (a .ledger)) (cellAt (a .sheet)) (a .month))
+
+bank-requires : tie.Need-bank-requires Inv-loop μ-loop
+bank-requires c κs = search needs
+
+mul-bank : tie.Need-mul-bank Inv-loop μ-loop
+mul-bank c = search needs
+
+mul-bank-2 : tie.Need-mul-bank-2 Inv-loop μ-loop
+mul-bank-2 c = search needs
+
+index-1-bank : tie.Need-index-1-bank Inv-loop μ-loop
+index-1-bank c = search needs
+
+index-2-bank : tie.Need-index-2-bank Inv-loop μ-loop
+index-2-bank c = search needs
+
+add-i : tie.Need-add-i Inv-loop μ-loop
+add-i c = search needs
+
+loop-less : tie.Need-loop-less Inv-loop μ-loop
+loop-less c = search needs
+
+loop-again : tie.Need-loop-again Inv-loop μ-loop
+unfolding bankIn
+loop-again c =
+    let l = c .before .before .loop in
+    let a = c .before .before .before .args in (
+      omega arith,
+      ap (λ (z : ℤ). set (l .next) (l .i) (set (getD (l .next) (l .i) []) (a .month) (record { 0 = z }))) (c .bank .ensures)
+          ∙ filled-next (bankIn (a .ledger)) (cellAt (a .sheet)) (a .month) (l .i) (l .next) (omega arith) (omega arith) (l .inv .1),
+    )
+
+returns : tie.Need-returns Inv-loop μ-loop
+returns c =
+    let l = c .before .loop in
+    let a = c .before .before .args in
+    l .inv .1 ∙ filled-all (bankIn (a .ledger)) (cellAt (a .sheet)) (a .month) (l .i) (omega arith)
+
+pub with-column-spec : {M : Type 1} → statement M
+with-column-spec =
+    tie.close
+    (tie.spec
+    Inv-loop
+    μ-loop
+    loop-holds
+    bank-requires
+    mul-bank
+    mul-bank-2
+    index-1-bank
+    index-2-bank
+    add-i
+    loop-less
+    loop-again
+    returns)

@@ -1,0 +1,67 @@
+-- An archive's entries, posted in order to a fresh ledger. "State refusals are archived too."
+use Prim.Native.Nat.{ℕ, _<_}
+use mathlib.Core.Path.{_≡_}
+use mathlib.Core.Bool.{Bool, cond}
+use mathlib.Core.List.{List, []}
+use lib.Dec.{eqb}
+use Rattle.ledger.specs.State.{fresh}
+use Rattle.ledger.specs.Panel.{panelOf}
+use Rattle.ledger.specs.History.{Line, history, run, isAccepted, accepted, countOf, sumOf, billed, violated, bankSum, figureSum, bankOf, owedOf, daysOf, remaining, bytesOf}
+use Rattle.archive.specs.Entries.{entriesOf}
+use Rattle.archive.specs.Reading.{checked, listOf}
+use Rattle.archive.specs.declared.replaying.Replay.{Replay}
+use Rattle.archive.specs.declared.replaying.Figures.{Figures}
+
+-- the entries of an archive; none where it is refused
+unfoldable pub heldBy : List ℕ → List (List ℕ)
+heldBy a = cond (eqb (checked a .number) 0) (entriesOf (listOf a)) []
+
+unfoldable pub asAccepted : Line → ℕ
+asAccepted x = cond (isAccepted x) 1 0
+
+unfoldable pub asRefused : Line → ℕ
+asRefused x = cond (isAccepted x) 0 1
+
+unfoldable pub replayed : List ℕ → Replay
+replayed a =
+    record {
+      number = checked a .number;
+      index = checked a .index;
+      accepted = countOf asAccepted (history fresh (heldBy a));
+      refused = countOf asRefused (history fresh (heldBy a));
+      ledger = run fresh (heldBy a);
+    }
+
+-- "accepted count, refused count, panel figure", or the archive's number and index
+unfoldable pub figuresOf : List ℕ → Figures
+figuresOf a =
+    record {
+      number = replayed a .number;
+      index = replayed a .index;
+      accepted = replayed a .accepted;
+      refused = replayed a .refused;
+      figure = panelOf (replayed a .ledger) .figure;
+    }
+
+-- ---- demand 3, of every archive: the ledger's claims over every list hold of what the archive holds
+
+abbrev pub acceptedOf : List ℕ → List Line
+acceptedOf a = accepted (history fresh (heldBy a))
+
+abbrev pub BanksAddUp : Type 0
+BanksAddUp = (a : List ℕ) (i : ℕ) → i < 16 → bankOf (replayed a .ledger) i ≡ bankSum i (acceptedOf a)
+
+abbrev pub FigureAddsUp : Type 0
+FigureAddsUp = (a : List ℕ) → figuresOf a .figure ≡ record { 0 = figureSum (acceptedOf a) }
+
+abbrev pub DebtsAddUp : Type 0
+DebtsAddUp = (a : List ℕ) (i : ℕ) → i < 16 → owedOf (replayed a .ledger) i ≡ sumOf (billed i) (acceptedOf a)
+
+abbrev pub DaysAddUp : Type 0
+DaysAddUp = (a : List ℕ) (i : ℕ) → i < 16 → daysOf (replayed a .ledger) i ≡ countOf (violated i) (acceptedOf a)
+
+abbrev pub StrikingChangesNothing : Type 0
+StrikingChangesNothing =
+    (a : List ℕ) (marks : List Bool)
+    → (history fresh (bytesOf (remaining marks (history fresh (heldBy a)))) ≡ remaining marks (history fresh (heldBy a)))
+    × (run fresh (bytesOf (remaining marks (history fresh (heldBy a)))) ≡ replayed a .ledger)

@@ -1,0 +1,33 @@
+-- Demand 2, of archives: "A list that the writer accepts reads back as that list; every archive accepted is the one that the writer makes of its entries."
+use Prim.Native.Nat.{ℕ, _<_, _≤_}
+use mathlib.Core.Path.{_≡_}
+use mathlib.Core.List.{List, []}
+use lib.ListN.{length, getD}
+use Rattle.archive.specs.Entries.{entriesOf, finding}
+use Rattle.archive.specs.Layout.{sectionsOf, together, archiveOf}
+use Rattle.archive.specs.Writing.{written}
+use Rattle.archive.specs.Reading.{sectionCount, checked, sectionAt, listOf}
+
+-- bytes, as memory holds them
+abbrev pub Bytes : List ℕ → Type 0
+Bytes bytes = (i : ℕ) → getD bytes i 0 < 256
+
+-- a list that the writer accepts, whatever the room: the reader accepts its archive, and reads the list, whole and section by section
+pub record Read (list : List ℕ) : Type 0 where
+  pub accepted : checked (archiveOf list) ≡ finding 0 0
+  pub whole : listOf (archiveOf list) ≡ list
+  pub count : sectionCount (archiveOf list) ≡ length (sectionsOf (entriesOf list))
+  pub sections : (i : ℕ) → i < length (sectionsOf (entriesOf list)) → sectionAt (archiveOf list) i ≡ getD (sectionsOf (entriesOf list)) i []
+  pub joined : together (sectionsOf (entriesOf list)) ≡ list
+
+abbrev pub ReadsBack : Type 0
+ReadsBack = (list : List ℕ) (room : ℕ) → written list room .number ≡ 0 → Read list
+
+-- an archive that the reader accepts: the writer makes it of its entries, wherever there is room for it
+pub record Remade (a : List ℕ) : Type 0 where
+  pub same : archiveOf (listOf a) ≡ a
+  pub answer : (room : ℕ) → length a ≤ room → written (listOf a) room ≡ record { number = 0; index = 0; length = length a }
+  pub fits : length a ≤ 4294967295
+
+abbrev pub WritesBack : Type 0
+WritesBack = (a : List ℕ) → Bytes a → checked a .number ≡ 0 → Remade a

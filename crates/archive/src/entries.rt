@@ -1,0 +1,39 @@
+// A list of entries, and which of them is refused first.
+ghost use mathlib.Core.Path.{_≡_};
+ghost use Prim.Native.Nat.{_<_};
+ghost use lib.ListN.{length};
+ghost use Rattle.archive.specs.Entries.{closesMonth};
+ghost use Rattle.archive.specs.Writing.{listChecked};
+
+pub struct Checked {
+    pub number: u64,
+    // Of the entry that the number is about, counted over the whole list or file; 0 where it is about none.
+    pub index: usize,
+}
+
+// Whether an entry is of kind 9.
+pub fn closes_month(entry: &[u8]) -> bool
+    requires { ⌜ 0 < length (now entry) ⌝ }
+    ensures { λ r. ⌜ r ≡ closesMonth (now (entry .entry)) ⌝ }
+{
+    entry[0] == 9
+}
+
+// The first entry of a list that gets a number by itself.
+pub fn check_list(list: &[u8]) -> Checked
+    ensures { λ r. ⌜ r ≡ listChecked (now (list .entry)) ⌝ }
+{
+    let n = list.len() / 32;
+    for k in 0..n {
+        let at = 32 * k;
+        let end = at + 32;
+        let number = ledger::entry_number(&list[at..end]);
+        if number != 0 {
+            return Checked { number, index: k };
+        }
+    }
+    Checked {
+        number: 0,
+        index: 0,
+    }
+}
