@@ -82,12 +82,12 @@ fn put_directory(out: &mut [u8], list: &[u8], count: usize)
     ensures { λ _. ⌜ now (out .exit) ≡ paste (now (out .entry)) 8 (directory (bodyAt count) (sectionsOf (entriesOf (now (list .entry))))) (8 * count) ⌝ }
 {
     let n = list.len();
-    let body = 8 + 8 * count;
+    let first = 8 + 8 * count;
     let mut at = 0;
     let mut done = 0;
     while at < n {
         let size = first_section(&list[at..]);
-        put_word(out, 8 + done, body + at);
+        put_word(out, 8 + done, first + at);
         put_word(out, 12 + done, size);
         at += size;
         done += 8;

@@ -6,7 +6,10 @@ use ledger::Answer;
 use ledger::Ledger;
 use ledger::Report;
 use libc::STDIN_FILENO;
-use libc::STDOUT_FILENO;
+use printing::mills;
+use printing::number;
+use printing::text;
+use printing::units;
 use tariff::amounts::Dth;
 use tariff::amounts::Mcf;
 use tariff::amounts::Mills;
@@ -15,34 +18,6 @@ use tariff::amounts::Units;
 use tariff::months::Month;
 ghost use Prim.Native.Nat.{_+_, _<_, _≤_};
 ghost use lib.ListN.{length};
-
-fn text(bytes: &[u8]) {
-    io::write_all(STDOUT_FILENO, bytes);
-}
-
-fn number(n: u64) {
-    io::print_decimal(STDOUT_FILENO, n);
-}
-
-// A number below zero has its size in `below`, any other in `above`.
-fn signed(above: u64, below: u64) {
-    if below == 0 {
-        number(above);
-        return;
-    }
-    text(b"-");
-    number(below);
-}
-
-fn units(a: Units) {
-    let above = a.inward();
-    let below = a.outward();
-    signed(above.0, below.0);
-}
-
-fn mills(m: Mills) {
-    signed(m.due(), m.credit());
-}
 
 // One account of an answer, where there is anything to tell.
 fn report(account: u64, r: Report) {

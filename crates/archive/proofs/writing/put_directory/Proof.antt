@@ -26,11 +26,11 @@ Inv-loop out₀ list count n body at₀ done₀ out at done =
 abbrev μ-loop : tie.MeasureT-loop
 μ-loop out₀ list count n body at₀ done₀ out at done = n - at
 
-mul-body : tie.Need-mul-body Inv-loop μ-loop
-mul-body c = search needs
+mul-first : tie.Need-mul-first Inv-loop μ-loop
+mul-first c = search needs
 
-add-body : tie.Need-add-body Inv-loop μ-loop
-add-body c = search needs
+add-first : tie.Need-add-first Inv-loop μ-loop
+add-first c = search needs
 
 found : (c : tie.After-first-section Inv-loop μ-loop) → FirstAt (c .before .before .before .before .before .before .args .list .now) (c .before .before .before .loop .at) (c .first-section .result)
 found c =
@@ -138,8 +138,8 @@ put-directory-spec =
     (tie.spec
     Inv-loop
     μ-loop
-    mul-body
-    add-body
+    mul-first
+    add-first
     loop-holds
     sub-first-section
     part-first-section-start
