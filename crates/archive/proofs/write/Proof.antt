@@ -1,6 +1,6 @@
 use borrow.Author.Tests.{eq-eqb, ne-eqb}
 use borrow.Author.Needs.{needs}
-use mathlib.Core.Path.{sym, ap, _∙_}
+use mathlib.Core.Path.{refl, sym, ap, _∙_}
 use lib.ListN.{length}
 use Rattle.archive.specs.declared.writing.Written.{Written}
 use Rattle.archive.specs.Writing.{written, outputAfter}
@@ -30,7 +30,7 @@ returns-2 c =
     let s = c .before .before .before .before .before in
     let w = c .before .before .plan .ensures in
     let some = ne-eqb (written (s .args .list .now) (length (s .args .out .now)) .number) 0 (λ z. c .if1 .left (ap (λ (x : Written). x .number) w ∙ z)) in
-    (w, rw some)
+    (w, rw some refl)
 
 pub write-spec : {M : Type 1} → statement M
 write-spec = tie.close (tie.spec plan-requires put-archive-requires same-length returns returns-2)

@@ -4,7 +4,7 @@ use Rattle.archive.specs.Entries.{closesMonth}
 use Rattle.ledger.specs.Entries.{entryOf}
 use Rattle.ledger.proofs.Fields.{month-byte}
 use Rattle.tariff.specs.Months.{gasMonth}
-use mathlib.Core.Path.{_≡_, sym, ap, _∙_}
+use mathlib.Core.Path.{refl, _≡_, sym, ap, _∙_}
 use mathlib.Core.Bool.{true, false}
 use mathlib.Core.List.{List}
 use Prim.Native.Nat.{ℕ}
@@ -31,7 +31,7 @@ module _ (year number : ℕ) (e : List ℕ) where
 
   this-year : number ≡ 0 → closesMonth e ≡ true → inGasYear year (entryOf e .date) ≡ true → (m : ℕ) → closesIn year m number e ≡ eqb (gasMonth (entryOf e .date .month)) m
   unfolding closesIn
-  this-year h k y m = rw (eq-eqb number 0 h, k, y)
+  this-year h k y m = rw (eq-eqb number 0 h, k, y) refl
 
 returns : tie.Need-returns
 returns c =
