@@ -6,7 +6,7 @@ use mathlib.Core.List.{List, [], _∷_}
 use native.Mathlib.Omega.{arith}
 use borrow.Author.Tests.{eqb-true, eqb-false, lt-ltb, le-ltb, ltb-true, ltb-false}
 use lib.Dec.{eqb, ltb, eqb·zero-suc, eqb·suc-zero, eqb·suc-suc}
-use lib.ListN.{getD, set}
+use lib.ListN.{length, getD, set}
 use Rattle.tariff.specs.declared.amounts.Units.{Units}
 use Rattle.ledger.specs.State.{fresh}
 use Rattle.ledger.specs.Posting.{posted}
@@ -22,6 +22,11 @@ module _ {A : Type 0} where
   get-upTo zero f i d h = absurd (omega arith)
   get-upTo (suc n) f zero d h = refl
   get-upTo (suc n) f (suc i) d h = get-upTo n (λ j. f (suc j)) i d (omega arith)
+
+  pub length-upTo : (n : ℕ) (f : ℕ → A) → length (upTo n f) ≡ n
+  unfolding upTo
+  length-upTo zero f = refl
+  length-upTo (suc n) f = ap suc (length-upTo n (λ i. f (suc i)))
 
   pub same-upTo : (n : ℕ) (f g : ℕ → A) → ((i : ℕ) → i < n → f i ≡ g i) → upTo n f ≡ upTo n g
   unfolding upTo

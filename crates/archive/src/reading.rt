@@ -11,6 +11,7 @@ use crate::words::half;
 use crate::words::word;
 
 // Where a section lies in its archive.
+#[repr(C)]
 pub struct Place {
     pub number: u64,
     pub index: usize,

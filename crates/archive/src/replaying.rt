@@ -20,6 +20,7 @@ pub struct Replay {
 }
 
 // What the panel program prints.
+#[repr(C)]
 pub struct Figures {
     pub number: u64,
     pub index: usize,

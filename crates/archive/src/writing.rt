@@ -12,6 +12,7 @@ use crate::sections::count_sections;
 use crate::sections::first_section;
 use crate::words::put_word;
 
+#[repr(C)]
 pub struct Written {
     pub number: u64,
     pub index: usize,

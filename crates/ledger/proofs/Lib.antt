@@ -14,3 +14,4 @@ pub mod StepClosing
 pub mod Histories
 pub mod Fields
 pub mod Replaying
+pub mod LentPosting

@@ -7,6 +7,7 @@ use tariff::amounts::Quantity;
 use tariff::amounts::Units;
 
 // Of one account, from an accepted closing.
+#[repr(C)]
 pub struct Report {
     // V1 is 1, V2 is 2, up to V8 128.
     pub mask: u64,
@@ -16,12 +17,14 @@ pub struct Report {
     pub bill: Mills,
 }
 
+#[repr(C)]
 pub struct Answer {
     // 0 is acceptance.
     pub number: u64,
     pub reports: [Report; 16],
 }
 
+#[repr(C)]
 pub struct Posted {
     pub answer: Answer,
     pub ledger: Ledger,

@@ -97,6 +97,17 @@ pub fn post(ledger: Ledger, entry: &[u8]) -> Posted
     post_kind(ledger, e)
 }
 
+// For a caller who keeps one ledger in its own storage: what `post` returns takes the ledger's place there, so that no old copy is left to post to.
+// Both have one definition, `posted`; so `every_history` speaks of a list of these too.
+pub fn post_in(ledger: &mut Ledger, entry: &[u8]) -> Answer
+    ensures answer { λ r. ⌜ r ≡ posted (now (ledger .entry)) (now (entry .entry)) .answer ⌝ }
+    ensures stored { λ _. ⌜ now (ledger .exit) ≡ posted (now (ledger .entry)) (now (entry .entry)) .ledger ⌝ }
+{
+    let p = post(*ledger, entry);
+    *ledger = p.ledger;
+    p.answer
+}
+
 // The figure that suppliers trade by, or 20 on a ledger out of range.
 pub fn panel(ledger: Ledger) -> Panel
     ensures { λ r. ⌜ r ≡ panelOf ledger ⌝ }

@@ -9,6 +9,7 @@ use crate::state::Account;
 use crate::state::Ledger;
 use tariff::amounts::Units;
 
+#[repr(C)]
 pub struct Panel {
     pub number: u64,
     pub figure: Units,

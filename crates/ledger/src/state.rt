@@ -13,6 +13,7 @@ use tariff::steps::Step;
 use tariff::terms::Capacity;
 use tariff::terms::Terms;
 
+#[repr(C)]
 pub struct Marks {
     // DELIVER was accepted today, MEASURE and USAGE this month.
     pub delivered: bool,
@@ -25,6 +26,7 @@ pub struct Marks {
     pub excused: bool,
 }
 
+#[repr(C)]
 pub struct Account {
     pub opened: bool,
     pub bank: Units,
@@ -38,6 +40,7 @@ pub struct Account {
     pub marks: Marks,
 }
 
+#[repr(C)]
 pub struct Ledger {
     pub begun: bool,
     // Something was accepted today.

@@ -6,6 +6,7 @@ ghost use Rattle.tariff.specs.Dates.{leap, monthLength, real, sameDate, 
 use crate::choice::choose;
 use crate::months::Month;
 
+#[repr(C)]
 pub struct Date {
     pub year: u64,
     pub month: Month,

@@ -4,6 +4,7 @@ ghost use Prim.Native.Nat.{_<_, _≤_};
 ghost use Rattle.tariff.specs.Months.{sameMonth, gasMonth, winter, minimum, maximum, mmbq, withdrawalMaximum, withdrawalMinimum};
 
 // By its number in the calendar year. Other numbers than 1 to 12 are no date's month.
+#[repr(C)]
 pub struct Month(pub u64);
 
 const MINIMUM: [u64; 12] = [0, 0, 14, 34, 54, 75, 88, 95, 78, 59, 36, 18];

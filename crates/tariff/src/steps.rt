@@ -6,6 +6,7 @@ use crate::amounts::Dth;
 use crate::choice::choose;
 use crate::choice::larger;
 
+#[repr(C)]
 pub struct Step {
     pub k: u64,
     // Becomes k at the month's end.

@@ -5,6 +5,7 @@ ghost use Prim.Native.Nat.{_≤_};
 ghost use Rattle.tariff.specs.Terms.{termsInRange, mddqOf, bcqOf, capacityOf};
 use crate::amounts::Dth;
 
+#[repr(C)]
 pub struct Terms {
     // NN, the company's daily no-notice quantity.
     pub no_notice: Dth,
@@ -20,6 +21,7 @@ pub struct Terms {
     pub commodity_rate: u64,
 }
 
+#[repr(C)]
 pub struct Capacity {
     pub mddq: Dth,
     pub bcq: Dth,

@@ -1,0 +1,231 @@
+//! Safe functions over the proved bank recorder library. What each answers is stated, and proved for every input, in
+//! the contracts of `crates/nedrulov`; names and units are those of `include/nedrulov.h`.
+//!
+//! The library allocates nothing and keeps no state. A refusal changes nothing.
+
+mod ffi;
+
+pub const ACCOUNTS: usize = 16;
+pub const MONTHS: usize = 12;
+pub const ENTRY_BYTES: usize = 32;
+
+#[repr(C)]
+#[derive(Clone, Copy, Debug, Default, PartialEq, Eq)]
+pub struct Date {
+    pub year: u64,
+    pub month: u64,
+    pub day: u64,
+}
+
+#[repr(C)]
+#[derive(Clone, Copy, Debug, Default, PartialEq, Eq)]
+pub struct Terms {
+    /// NN, Dth.
+    pub no_notice: u64,
+    /// DD, Dth.
+    pub design_day: u64,
+    /// S, Dth.
+    pub storage: u64,
+    /// R, ten-thousandths.
+    pub retainage: u64,
+    /// Mills per Dth.
+    pub demand_rate: u64,
+    /// Mills per Mcf.
+    pub commodity_rate: u64,
+}
+
+#[repr(C)]
+#[derive(Clone, Copy, Debug, Default, PartialEq, Eq)]
+pub struct Step {
+    pub k: u64,
+    pub pending: u64,
+    pub over: u64,
+    pub under: u64,
+}
+
+/// In Dth.
+#[repr(C)]
+#[derive(Clone, Copy, Debug, Default, PartialEq, Eq)]
+pub struct Capacity {
+    pub mddq: u64,
+    pub bcq: u64,
+}
+
+/// The month so far: gas in hundredths of a Dth, usage in Mcf.
+#[repr(C)]
+#[derive(Clone, Copy, Debug, Default, PartialEq, Eq)]
+pub struct Totals {
+    pub net: i64,
+    pub sales: u64,
+    pub purchases: u64,
+    pub cash_ins: u64,
+    pub cash_outs: u64,
+    pub usage: u64,
+}
+
+#[repr(C)]
+#[derive(Clone, Copy, Debug, Default, PartialEq, Eq)]
+pub struct Marks {
+    pub delivered: bool,
+    pub measured: bool,
+    pub metered: bool,
+    pub v1: bool,
+    pub v2: bool,
+    pub excused: bool,
+}
+
+/// Gas in hundredths of a Dth, MDQ in Dth, money in mills.
+#[repr(C)]
+#[derive(Clone, Copy, Debug, Default, PartialEq, Eq)]
+pub struct Account {
+    pub opened: bool,
+    pub bank: i64,
+    pub mdq: u64,
+    pub step: Step,
+    pub capacity: Capacity,
+    pub month: Totals,
+    pub carry: u64,
+    pub owed: i64,
+    pub violation_days: u64,
+    pub marks: Marks,
+}
+
+#[repr(C)]
+#[derive(Clone, Copy, Debug, PartialEq, Eq)]
+pub struct Ledger {
+    pub begun: bool,
+    pub touched: bool,
+    pub date: Date,
+    pub terms: Terms,
+    pub accounts: [Account; ACCOUNTS],
+}
+
+/// What a closing reports of an account: gas in hundredths of a Dth, the bill in mills.
+#[repr(C)]
+#[derive(Clone, Copy, Debug, Default, PartialEq, Eq)]
+pub struct Report {
+    pub mask: u64,
+    pub cash: i64,
+    pub forfeit: u64,
+    pub bill: i64,
+}
+
+#[repr(C)]
+#[derive(Clone, Copy, Debug, PartialEq, Eq)]
+pub struct Answer {
+    pub number: u64,
+    pub reports: [Report; ACCOUNTS],
+}
+
+#[repr(C)]
+#[derive(Clone, Copy, Debug, PartialEq, Eq)]
+pub struct Posted {
+    pub answer: Answer,
+    pub ledger: Ledger,
+}
+
+#[repr(C)]
+#[derive(Clone, Copy, Debug, PartialEq, Eq)]
+pub struct Panel {
+    pub number: u64,
+    pub figure: i64,
+}
+
+/// What is wrong with an archive, and at which entry.
+#[repr(C)]
+#[derive(Clone, Copy, Debug, PartialEq, Eq)]
+pub struct Checked {
+    pub number: u64,
+    pub index: usize,
+}
+
+/// Where a section lies in its archive.
+#[repr(C)]
+#[derive(Clone, Copy, Debug, PartialEq, Eq)]
+pub struct Place {
+    pub number: u64,
+    pub index: usize,
+    pub start: usize,
+    pub length: usize,
+}
+
+#[repr(C)]
+#[derive(Clone, Copy, Debug, PartialEq, Eq)]
+pub struct Written {
+    pub number: u64,
+    pub index: usize,
+    pub length: usize,
+}
+
+#[repr(C)]
+#[derive(Clone, Copy, Debug, PartialEq, Eq)]
+pub struct Figures {
+    pub number: u64,
+    pub index: usize,
+    pub accepted: u64,
+    pub refused: u64,
+    pub figure: i64,
+}
+
+/// A ledger with no terms, no date and no open account.
+pub fn fresh() -> Ledger {
+    unsafe { ffi::nedrulov_fresh() }
+}
+
+/// What is wrong with an entry by itself: 0, or 1 to 7.
+pub fn entry_number(entry: &[u8]) -> u64 {
+    unsafe { ffi::nedrulov_entry_number(entry.as_ptr(), entry.len()) }
+}
+
+/// Posts an entry to the ledger in its storage.
+pub fn post(ledger: &mut Ledger, entry: &[u8]) -> Answer {
+    unsafe { ffi::nedrulov_post(ledger, entry.as_ptr(), entry.len()) }
+}
+
+/// Posts an entry to a ledger by value.
+pub fn post_by_value(ledger: Ledger, entry: &[u8]) -> Posted {
+    unsafe { ffi::nedrulov_post_by_value(ledger, entry.as_ptr(), entry.len()) }
+}
+
+/// Total gas in bank, or 20 on a ledger out of range.
+pub fn panel(ledger: Ledger) -> Panel {
+    unsafe { ffi::nedrulov_panel(ledger) }
+}
+
+/// What is wrong with an archive, and at which entry; 0 and 0 where nothing is.
+pub fn check(archive: &[u8]) -> Checked {
+    unsafe { ffi::nedrulov_check(archive.as_ptr(), archive.len()) }
+}
+
+/// Where a section lies.
+pub fn place(archive: &[u8], section: usize) -> Place {
+    unsafe { ffi::nedrulov_place(archive.as_ptr(), archive.len(), section) }
+}
+
+/// A section as that part of the archive, or the number and index of the refusal.
+pub fn section(archive: &[u8], section: usize) -> Result<&[u8], Checked> {
+    let p = place(archive, section);
+    match p.number {
+        0 => Ok(&archive[p.start..p.start + p.length]),
+        number => Err(Checked { number, index: p.index }),
+    }
+}
+
+/// Writes the archive of a list of entries to the start of the output.
+pub fn write(list: &[u8], out: &mut [u8]) -> Written {
+    unsafe { ffi::nedrulov_write(list.as_ptr(), list.len(), out.as_mut_ptr(), out.len()) }
+}
+
+/// Posts an archive's entries in order to a fresh ledger.
+pub fn figures(archive: &[u8]) -> Figures {
+    unsafe { ffi::nedrulov_figures(archive.as_ptr(), archive.len()) }
+}
+
+/// The banks just after each accepted CLOSE MONTH of a gas year, accounts by months from April.
+pub fn year_sheet(archive: &[u8], year: u64) -> [[i64; MONTHS]; ACCOUNTS] {
+    let mut cells = [0; ACCOUNTS * MONTHS];
+    let number =
+        unsafe { ffi::nedrulov_year_sheet(archive.as_ptr(), archive.len(), year, cells.as_mut_ptr(), cells.len()) };
+    assert_eq!(number, 0, "192 cells are enough");
+    std::array::from_fn(|account| std::array::from_fn(|month| cells[MONTHS * account + month]))
+}

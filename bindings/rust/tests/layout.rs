@@ -1,0 +1,41 @@
+//! Sizes and offsets of what crosses the door, as `include/nedrulov.h` asserts them too.
+use nedrulov::*;
+use std::mem::{offset_of, size_of};
+
+#[test]
+fn sizes() {
+    assert_eq!(size_of::<usize>(), 8);
+    assert_eq!(size_of::<Date>(), 24);
+    assert_eq!(size_of::<Terms>(), 48);
+    assert_eq!(size_of::<Step>(), 32);
+    assert_eq!(size_of::<Capacity>(), 16);
+    assert_eq!(size_of::<Totals>(), 48);
+    assert_eq!(size_of::<Marks>(), 6);
+    assert_eq!(size_of::<Account>(), 152);
+    assert_eq!(size_of::<Ledger>(), 2512);
+    assert_eq!(size_of::<Report>(), 32);
+    assert_eq!(size_of::<Answer>(), 520);
+    assert_eq!(size_of::<Posted>(), 3032);
+    assert_eq!(size_of::<Panel>(), 16);
+    assert_eq!(size_of::<Checked>(), 16);
+    assert_eq!(size_of::<Place>(), 32);
+    assert_eq!(size_of::<Written>(), 24);
+    assert_eq!(size_of::<Figures>(), 40);
+}
+
+#[test]
+fn offsets() {
+    assert_eq!(offset_of!(Account, bank), 8);
+    assert_eq!(offset_of!(Account, mdq), 16);
+    assert_eq!(offset_of!(Account, step), 24);
+    assert_eq!(offset_of!(Account, capacity), 56);
+    assert_eq!(offset_of!(Account, month), 72);
+    assert_eq!(offset_of!(Account, carry), 120);
+    assert_eq!(offset_of!(Account, owed), 128);
+    assert_eq!(offset_of!(Account, violation_days), 136);
+    assert_eq!(offset_of!(Account, marks), 144);
+    assert_eq!(offset_of!(Ledger, touched), 1);
+    assert_eq!(offset_of!(Ledger, date), 8);
+    assert_eq!(offset_of!(Ledger, terms), 32);
+    assert_eq!(offset_of!(Ledger, accounts), 80);
+}

@@ -1,0 +1,109 @@
+use borrow.Author.Needs.{needs}
+use native.Mathlib.Nat.{zero-add, le-antisymm}
+use native.Mathlib.Numerals.{add-one}
+use native.Mathlib.Omega.{arith}
+use Prim.Native.Nat.{ℕ, suc, _+_, _-_, _/_, _%_, _≤_, _<_}
+use mathlib.Core.List.{List, _++_}
+use mathlib.Core.Path.{_≡_, refl, sym, ap, _∙_, subst}
+use lib.IntN.{ℤ, pos}
+use lib.Seq.{paste, paste-zero, paste-suc, take-all}
+use lib.ListN.{length, drop, getD, set, length-set}
+use mir.Syntax.{w64}
+use mir.Val.{toZ, ofZ}
+use Rattle.archive.proofs.Grids.{get-upTo, length-upTo}
+use Rattle.archive.specs.YearSheet.{cellAt, nothing}
+use Rattle.tariff.specs.declared.amounts.Units.{Units}
+use Rattle.nedrulov.specs.Cells.{cellsOf}
+use Rattle.nedrulov.proofs.put_cells.Statement.{statement}
+use Rattle.nedrulov.proofs.put_cells.Tie as tie
+
+length-cells : (sheet : List (List Units)) → length (cellsOf sheet) ≡ 192
+unfolding cellsOf
+length-cells sheet = length-upTo 192 (λ k. cellAt sheet (k / 12) (k % 12) .0)
+
+-- one cell more
+cell-more : (sheet : List (List Units)) (d x : List ℤ) (k : ℕ) → x ≡ paste d 0 (cellsOf sheet) k → k < 192 → 192 ≤ length d → set x k (cellAt sheet (k / 12) (k % 12) .0) ≡ paste d 0 (cellsOf sheet) (k + 1)
+unfolding cellsOf
+cell-more sheet d x k e h r =
+    let z = cellAt sheet (k / 12) (k % 12) .0 in
+    let cell : getD (cellsOf sheet) k (pos 0) ≡ z = get-upTo 192 (λ j. cellAt sheet (j / 12) (j % 12) .0) k (pos 0) h in
+    ap (λ (l : List ℤ). set l k z) e
+    ∙ ap (set (paste d 0 (cellsOf sheet) k) k) (sym cell)
+    ∙ subst (λ (j : ℕ). set (paste d 0 (cellsOf sheet) k) j (getD (cellsOf sheet) k (pos 0)) ≡ paste d 0 (cellsOf sheet) (suc k)) (zero-add k) (paste-suc d 0 (cellsOf sheet) k (pos 0) (omega arith) (omega (arith, length-cells sheet)))
+    ∙ ap (paste d 0 (cellsOf sheet)) (sym (add-one k))
+
+cells-all : (sheet : List (List Units)) (d : List ℤ) → paste d 0 (cellsOf sheet) 192 ≡ cellsOf sheet ++ drop 192 d
+cells-all sheet d = ap (λ (l : List ℤ). l ++ drop 192 d) (take-all 192 (cellsOf sheet) (omega (arith, length-cells sheet)))
+
+abbrev Inv-loop : tie.InvT-loop
+Inv-loop cells₀ sheet k₀ cells k = (k ≤ 192) × (length cells ≡ length cells₀) × (cells ≡ paste cells₀ 0 (cellsOf sheet) k)
+
+abbrev μ-loop : tie.MeasureT-loop
+μ-loop cells₀ sheet k₀ cells k = 192 - k
+
+loop-holds : tie.Need-loop-holds Inv-loop μ-loop
+loop-holds c = (search needs, refl, paste-zero (c .args .cells .now) 0 (cellsOf (c .args .t1)))
+
+mul-bank : tie.Need-mul-bank Inv-loop μ-loop
+mul-bank c = search needs
+
+mul-bank-2 : tie.Need-mul-bank-2 Inv-loop μ-loop
+mul-bank-2 c = search needs
+
+index-1-bank : tie.Need-index-1-bank Inv-loop μ-loop
+index-1-bank c = search needs
+
+index-2-bank : tie.Need-index-2-bank Inv-loop μ-loop
+index-2-bank c = search needs
+
+mul-units : tie.Need-mul-units Inv-loop μ-loop
+mul-units c = search needs
+
+slice-set-from-units : tie.Need-slice-set-from-units Inv-loop μ-loop
+slice-set-from-units c = omega arith
+
+add-k : tie.Need-add-k Inv-loop μ-loop
+add-k c = search needs
+
+loop-less : tie.Need-loop-less Inv-loop μ-loop
+loop-less c = search needs
+
+loop-again : tie.Need-loop-again Inv-loop μ-loop
+unfolding nothing cellAt
+loop-again c =
+    let l = c .before .before .before in
+    let d = l .before .args .cells .now in
+    let sheet = l .before .args .t1 in
+    let k = l .loop .k in
+    let z = cellAt sheet (k / 12) (k % 12) .0 in
+    let same : toZ w64 (ofZ w64 z) ≡ z = search needs in
+    (omega arith, simp length-set (omega arith), ap (set (l .loop .cells) k) same ∙ cell-more sheet d (l .loop .cells) k (l .loop .inv .2) (omega arith) (omega arith))
+
+same-length : tie.Need-same-length Inv-loop μ-loop
+same-length c = search needs
+
+returns : tie.Need-returns Inv-loop μ-loop
+returns c =
+    let l = c .before in
+    let d = l .before .args .cells .now in
+    let sheet = l .before .args .t1 in
+    l .loop .inv .2 ∙ ap (paste d 0 (cellsOf sheet)) (le-antisymm (l .loop .inv .0) (c .loop-test .left)) ∙ cells-all sheet d
+
+pub put-cells-spec : {M : Type 1} → statement M
+put-cells-spec =
+    tie.close
+    (tie.spec
+    Inv-loop
+    μ-loop
+    loop-holds
+    mul-bank
+    mul-bank-2
+    index-1-bank
+    index-2-bank
+    mul-units
+    slice-set-from-units
+    add-k
+    loop-less
+    loop-again
+    same-length
+    returns)

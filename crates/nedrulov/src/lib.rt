@@ -1,0 +1,120 @@
+// The door for firmware: what a C or Rust program links. Every function answers every input, keeps no state,
+// and writes only to what the caller lends it.
+ghost use mathlib.Core.Path.{_≡_};
+ghost use mathlib.Core.Bool.{cond};
+ghost use Prim.Native.Nat.{_≤_};
+ghost use lib.Dec.{ltb};
+ghost use lib.ListN.{length, drop};
+ghost use mathlib.Core.List.{_++_};
+ghost use Rattle.ledger.specs.State.{fresh};
+ghost use Rattle.ledger.specs.Entries.{formNumber};
+ghost use Rattle.ledger.specs.Posting.{posted};
+ghost use Rattle.ledger.specs.Panel.{panelOf};
+ghost use Rattle.archive.specs.Writing.{written, outputAfter};
+ghost use Rattle.archive.specs.Reading.{checked, placeOf};
+ghost use Rattle.archive.specs.Replay.{figuresOf};
+ghost use Rattle.archive.specs.YearSheet.{sheetOf};
+ghost use Rattle.nedrulov.specs.Cells.{cellsOf, cellsAfter};
+use archive::Checked;
+use archive::Figures;
+use archive::Place;
+use archive::Written;
+use ledger::Answer;
+use ledger::Ledger;
+use ledger::Panel;
+use ledger::Posted;
+use tariff::amounts::Units;
+
+#[no_mangle]
+pub extern "C" fn nedrulov_fresh() -> Ledger
+    ensures { λ r. ⌜ r ≡ fresh ⌝ }
+{
+    ledger::fresh()
+}
+
+#[no_mangle]
+pub extern "C" fn nedrulov_entry_number(entry: &[u8]) -> u64
+    ensures { λ r. ⌜ r ≡ formNumber (now (entry .entry)) ⌝ }
+{
+    ledger::entry_number(entry)
+}
+
+#[no_mangle]
+pub extern "C" fn nedrulov_post(ledger: &mut Ledger, entry: &[u8]) -> Answer
+    ensures answer { λ r. ⌜ r ≡ posted (now (ledger .entry)) (now (entry .entry)) .answer ⌝ }
+    ensures stored { λ _. ⌜ now (ledger .exit) ≡ posted (now (ledger .entry)) (now (entry .entry)) .ledger ⌝ }
+{
+    let p = ledger::post(*ledger, entry);
+    *ledger = p.ledger;
+    p.answer
+}
+
+#[no_mangle]
+pub extern "C" fn nedrulov_post_by_value(ledger: Ledger, entry: &[u8]) -> Posted
+    ensures { λ r. ⌜ r ≡ posted ledger (now (entry .entry)) ⌝ }
+{
+    ledger::post(ledger, entry)
+}
+
+#[no_mangle]
+pub extern "C" fn nedrulov_panel(ledger: Ledger) -> Panel
+    ensures { λ r. ⌜ r ≡ panelOf ledger ⌝ }
+{
+    ledger::panel(ledger)
+}
+
+#[no_mangle]
+pub extern "C" fn nedrulov_check(archive: &[u8]) -> Checked
+    ensures { λ r. ⌜ r ≡ checked (now (archive .entry)) ⌝ }
+{
+    archive::check(archive)
+}
+
+#[no_mangle]
+pub extern "C" fn nedrulov_place(archive: &[u8], section: usize) -> Place
+    ensures { λ r. ⌜ r ≡ placeOf (now (archive .entry)) section ⌝ }
+{
+    archive::place(archive, section)
+}
+
+#[no_mangle]
+pub extern "C" fn nedrulov_write(list: &[u8], out: &mut [u8]) -> Written
+    ensures answer { λ r. ⌜ r ≡ written (now (list .entry)) (length (now (out .entry))) ⌝ }
+    ensures output { λ _. ⌜ now (out .exit) ≡ outputAfter (now (list .entry)) (now (out .entry)) ⌝ }
+{
+    archive::write(list, out)
+}
+
+#[no_mangle]
+pub extern "C" fn nedrulov_figures(archive: &[u8]) -> Figures
+    ensures { λ r. ⌜ r ≡ figuresOf (now (archive .entry)) ⌝ }
+{
+    archive::figures(archive)
+}
+
+// The year sheet, row after row, in the first 192 cells; 12 where there are fewer, which then stay.
+#[no_mangle]
+pub extern "C" fn nedrulov_year_sheet(archive: &[u8], year: u64, cells: &mut [i64]) -> u64
+    ensures number { λ r. ⌜ r ≡ cond (ltb (length (now (cells .entry))) 192) 12 0 ⌝ }
+    ensures cells { λ _. ⌜ now (cells .exit) ≡ cellsAfter (sheetOf (now (archive .entry)) year) (now (cells .entry)) ⌝ }
+{
+    if cells.len() < 192 {
+        return 12;
+    }
+    let sheet = archive::year_sheet(archive, year);
+    put_cells(sheet, cells);
+    0
+}
+
+fn put_cells(sheet: [[Units; 12]; 16], cells: &mut [i64])
+    requires { ⌜ 192 ≤ length (now cells) ⌝ }
+    ensures { λ _. ⌜ now (cells .exit) ≡ cellsOf sheet ++ drop 192 (now (cells .entry)) ⌝ }
+{
+    for k in 0..192 {
+        let i = k / 12;
+        let m = k % 12;
+        let bank = sheet[i][m];
+        let units = bank.0;
+        cells[k] = units;
+    }
+}

@@ -1,0 +1,253 @@
+/*
+ * The bank recorder's library: postings to a gas-bank ledger under Rider EFBS, the panel figure, and the archive.
+ *
+ * Memory. The caller owns everything: ledgers, entries, lists, archives and outputs. The library allocates nothing,
+ * keeps no pointer and no state between calls, and writes only to what it is lent as a pointer to non-const.
+ * Two buffers given to one call must not overlap. A pointer with length 0 may be null.
+ *
+ * Answers. Every call answers every input: any bytes of any length, and any ledger whose bool members hold 0 or 1
+ * (a C program that only assigns to them, or copies whole ledgers, never makes another value). What each answer is
+ * is proved for every input; see docs/ARCHITECTURE.md.
+ *
+ * Units. Gas in hundredths of a Dth ("units"), MDQ, MDDQ and BCQ in whole Dth, consumption in whole Mcf, money in
+ * mills (thousandths of a dollar).
+ */
+#ifndef NEDRULOV_H
+#define NEDRULOV_H
+
+#include <stdbool.h>
+#include <stddef.h>
+#include <stdint.h>
+
+#ifdef __cplusplus
+extern "C" {
+#endif
+
+#define NEDRULOV_ACCOUNTS 16
+#define NEDRULOV_MONTHS 12
+#define NEDRULOV_CELLS 192
+#define NEDRULOV_ENTRY_BYTES 32
+
+/* The number of an answer. The first that applies, in ascending order, is given. */
+enum {
+    NEDRULOV_ACCEPTED = 0,
+    /* of an entry or a list by itself */
+    NEDRULOV_WRONG_LENGTH = 1,      /* entry not 32 bytes; list no multiple of 32 */
+    NEDRULOV_NO_KIND = 2,           /* kind not 1 to 9 */
+    NEDRULOV_NO_DATE = 3,           /* no such date in 2000 to 2099 */
+    NEDRULOV_NO_ACCOUNT = 4,        /* a used account above 15 */
+    NEDRULOV_UNUSED_SET = 5,        /* unused byte or flag set */
+    NEDRULOV_WORD_RANGE = 6,        /* word outside its range */
+    NEDRULOV_WRONG_TRANSFER = 7,    /* TRANSFER with A = B or w1 not w2 */
+    /* of an archive */
+    NEDRULOV_WRONG_HEADER = 8,      /* size, opening bytes, bytes 6 and 7, more than 1,200 sections, directory beyond the end */
+    NEDRULOV_WRONG_DIRECTORY = 9,   /* directory pair or file end wrong */
+    NEDRULOV_WRONG_SECTION = 10,    /* kind 9 not last in its section, or a section but the last ending otherwise */
+    NEDRULOV_TOO_LARGE = 11,        /* writer: over 1,200 sections or 2^32 - 1 bytes */
+    NEDRULOV_TOO_SHORT = 12,        /* output too short */
+    NEDRULOV_NO_SECTION = 13,       /* no such section */
+    /* of the ledger */
+    NEDRULOV_LEDGER_RANGE = 20,     /* a number in the ledger outside its range */
+    NEDRULOV_NOT_BEGUN = 21,        /* not begun, and not TERMS */
+    NEDRULOV_WRONG_DATE = 22,       /* not the ledger's date */
+    NEDRULOV_WRONG_DAY = 23,        /* not the day for this kind */
+    NEDRULOV_WRONG_ACCOUNT = 24,    /* ENROL of an open account; another kind on one not open */
+    NEDRULOV_STAYS_ON_FBS = 25,     /* stays on FBS */
+    NEDRULOV_SECOND_TIME = 26,      /* second DELIVER that day, MEASURE or USAGE that month */
+    NEDRULOV_INCOMPLETE = 27,       /* closing while an open account lacks DELIVER, MEASURE or USAGE */
+    NEDRULOV_PAST_LIMIT = 28,       /* opening too high; TRANSFER or TRADE past its limit */
+    NEDRULOV_WOULD_OVERFLOW = 29    /* a number would leave its range */
+};
+
+/* Bits of a violation mask. */
+enum {
+    NEDRULOV_V1 = 1, NEDRULOV_V2 = 2, NEDRULOV_V3 = 4, NEDRULOV_V4 = 8,
+    NEDRULOV_V5 = 16, NEDRULOV_V6 = 32, NEDRULOV_V7 = 64, NEDRULOV_V8 = 128
+};
+
+/* ---- the ledger */
+
+typedef struct {
+    uint64_t year;
+    uint64_t month;                 /* 1 to 12 */
+    uint64_t day;
+} nedrulov_date;
+
+typedef struct {
+    uint64_t no_notice;             /* NN, Dth */
+    uint64_t design_day;            /* DD, Dth */
+    uint64_t storage;               /* S, Dth */
+    uint64_t retainage;             /* R, ten-thousandths */
+    uint64_t demand_rate;           /* mills per Dth */
+    uint64_t commodity_rate;        /* mills per Mcf */
+} nedrulov_terms;
+
+typedef struct {
+    uint64_t k;                     /* the step in force */
+    uint64_t pending;               /* becomes k at the month's end */
+    uint64_t over;                  /* how often running measured above the step */
+    uint64_t under;                 /* and below it */
+} nedrulov_step;
+
+typedef struct {
+    uint64_t mddq;                  /* Dth */
+    uint64_t bcq;                   /* Dth */
+} nedrulov_capacity;
+
+/* the month so far */
+typedef struct {
+    int64_t net;                    /* units, deliveries alone */
+    uint64_t sales;                 /* units that the company sold to the account */
+    uint64_t purchases;             /* units that it bought */
+    uint64_t cash_ins;              /* units */
+    uint64_t cash_outs;             /* units */
+    uint64_t usage;                 /* Mcf */
+} nedrulov_totals;
+
+typedef struct {
+    bool delivered;                 /* DELIVER accepted today */
+    bool measured;                  /* MEASURE accepted this month */
+    bool metered;                   /* USAGE accepted this month */
+    bool v1;                        /* what today's delivery broke */
+    bool v2;
+    bool excused;                   /* a fall of the step excuses a bank above its limit */
+} nedrulov_marks;
+
+typedef struct {
+    bool opened;
+    int64_t bank;                   /* units */
+    uint64_t mdq;                   /* Dth */
+    nedrulov_step step;
+    nedrulov_capacity capacity;
+    nedrulov_totals month;
+    uint64_t carry;                 /* units */
+    int64_t owed;                   /* mills */
+    uint64_t violation_days;
+    nedrulov_marks marks;
+} nedrulov_account;
+
+typedef struct {
+    bool begun;
+    bool touched;                   /* something was accepted today */
+    nedrulov_date date;
+    nedrulov_terms terms;
+    nedrulov_account accounts[NEDRULOV_ACCOUNTS];
+} nedrulov_ledger;
+
+/* what a closing reports of an account; all 0 from any other posting */
+typedef struct {
+    uint64_t mask;                  /* NEDRULOV_V1 to NEDRULOV_V8 */
+    int64_t cash;                   /* units, in positive, out negative */
+    uint64_t forfeit;               /* units */
+    int64_t bill;                   /* mills */
+} nedrulov_report;
+
+typedef struct {
+    uint64_t number;
+    nedrulov_report reports[NEDRULOV_ACCOUNTS];
+} nedrulov_answer;
+
+typedef struct {
+    nedrulov_answer answer;
+    nedrulov_ledger ledger;
+} nedrulov_posted;
+
+typedef struct {
+    uint64_t number;                /* 0, or 20 on a ledger out of range */
+    int64_t figure;                 /* total gas in bank, units */
+} nedrulov_panel_answer;
+
+/* A ledger with no terms, no date and no open account. */
+nedrulov_ledger nedrulov_fresh(void);
+
+/* What is wrong with an entry by itself: 0, or 1 to 7. */
+uint64_t nedrulov_entry_number(const uint8_t *entry, size_t length);
+
+/* Posts an entry to the ledger in the caller's storage. Refused: the number, zeros, and the ledger as it was. */
+nedrulov_answer nedrulov_post(nedrulov_ledger *ledger, const uint8_t *entry, size_t length);
+
+/* The same by value. */
+nedrulov_posted nedrulov_post_by_value(nedrulov_ledger ledger, const uint8_t *entry, size_t length);
+
+/* Total gas in bank. */
+nedrulov_panel_answer nedrulov_panel(nedrulov_ledger ledger);
+
+/* ---- the archive */
+
+typedef struct {
+    uint64_t number;
+    size_t index;                   /* of the entry that the number is about, over the whole list or file; else 0 */
+} nedrulov_checked;
+
+typedef struct {
+    uint64_t number;
+    size_t index;
+    size_t start;                   /* where the section begins in the archive */
+    size_t length;                  /* its bytes; 0 with any refusal */
+} nedrulov_section_place;
+
+typedef struct {
+    uint64_t number;
+    size_t index;
+    size_t length;                  /* of the archive; 0 with any refusal */
+} nedrulov_written;
+
+typedef struct {
+    uint64_t number;                /* of the archive; with a refusal the rest but the index is 0 */
+    size_t index;
+    uint64_t accepted;              /* postings */
+    uint64_t refused;               /* postings */
+    int64_t figure;                 /* total gas in bank after the last, units */
+} nedrulov_replay_figures;
+
+/* What is wrong with an archive: 0, or 8, 9, or 2 to 7 and 10 with an entry's index. */
+nedrulov_checked nedrulov_check(const uint8_t *archive, size_t length);
+
+/* Where a section lies, counted from 0; 13 if there is no such section, after the archive's own refusals. */
+nedrulov_section_place nedrulov_place(const uint8_t *archive, size_t length, size_t section);
+
+/* Writes the archive of a list of entries to the start of the output. Refused: the output stays; bytes past the archive stay. */
+nedrulov_written nedrulov_write(const uint8_t *list, size_t list_length, uint8_t *out, size_t out_length);
+
+/* Posts an archive's entries in order to a fresh ledger. */
+nedrulov_replay_figures nedrulov_figures(const uint8_t *archive, size_t length);
+
+/*
+ * The banks just after each accepted CLOSE MONTH from April of a year to March of the next: cell 12 * account + month,
+ * April being month 0; 0 where there was none or the archive is refused. 12, and the cells stay, if there are fewer than 192.
+ */
+uint64_t nedrulov_year_sheet(const uint8_t *archive, size_t length, uint64_t year, int64_t *cells, size_t count);
+
+/* ---- the layout that the library was built with */
+
+#if defined(__STDC_VERSION__) && __STDC_VERSION__ >= 201112L
+#define NEDRULOV_ASSERT(what, condition) _Static_assert(condition, #what)
+#else
+#define NEDRULOV_ASSERT(what, condition) typedef char nedrulov_assert_##what[(condition) ? 1 : -1]
+#endif
+
+NEDRULOV_ASSERT(size_of_size, sizeof(size_t) == 8);
+NEDRULOV_ASSERT(size_of_bool, sizeof(bool) == 1);
+NEDRULOV_ASSERT(size_of_marks, sizeof(nedrulov_marks) == 6);
+NEDRULOV_ASSERT(size_of_account, sizeof(nedrulov_account) == 152);
+NEDRULOV_ASSERT(bank_offset, offsetof(nedrulov_account, bank) == 8);
+NEDRULOV_ASSERT(mdq_offset, offsetof(nedrulov_account, mdq) == 16);
+NEDRULOV_ASSERT(step_offset, offsetof(nedrulov_account, step) == 24);
+NEDRULOV_ASSERT(capacity_offset, offsetof(nedrulov_account, capacity) == 56);
+NEDRULOV_ASSERT(month_offset, offsetof(nedrulov_account, month) == 72);
+NEDRULOV_ASSERT(carry_offset, offsetof(nedrulov_account, carry) == 120);
+NEDRULOV_ASSERT(owed_offset, offsetof(nedrulov_account, owed) == 128);
+NEDRULOV_ASSERT(violation_days_offset, offsetof(nedrulov_account, violation_days) == 136);
+NEDRULOV_ASSERT(marks_offset, offsetof(nedrulov_account, marks) == 144);
+NEDRULOV_ASSERT(size_of_ledger, sizeof(nedrulov_ledger) == 2512);
+NEDRULOV_ASSERT(date_offset, offsetof(nedrulov_ledger, date) == 8);
+NEDRULOV_ASSERT(terms_offset, offsetof(nedrulov_ledger, terms) == 32);
+NEDRULOV_ASSERT(accounts_offset, offsetof(nedrulov_ledger, accounts) == 80);
+NEDRULOV_ASSERT(size_of_answer, sizeof(nedrulov_answer) == 520);
+NEDRULOV_ASSERT(size_of_posted, sizeof(nedrulov_posted) == 3032);
+
+#ifdef __cplusplus
+}
+#endif
+
+#endif

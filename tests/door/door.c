@@ -1,0 +1,159 @@
+/* Posts the sample year through the lent ledger and by value, and compares every answer and every member of the ledger. */
+#include "nedrulov.h"
+
+#include <stdio.h>
+#include <stdlib.h>
+#include <string.h>
+
+static int failures = 0;
+
+static void expect(bool right, const char *what, size_t at)
+{
+    if (!right) {
+        failures++;
+        printf("door: %s at %zu\n", what, at);
+    }
+}
+
+static bool same_account(const nedrulov_account *a, const nedrulov_account *b)
+{
+    /* step, capacity and month have no padding */
+    return a->opened == b->opened && a->bank == b->bank && a->mdq == b->mdq
+        && memcmp(&a->step, &b->step, sizeof a->step) == 0
+        && memcmp(&a->capacity, &b->capacity, sizeof a->capacity) == 0
+        && memcmp(&a->month, &b->month, sizeof a->month) == 0
+        && a->carry == b->carry && a->owed == b->owed && a->violation_days == b->violation_days
+        && memcmp(&a->marks, &b->marks, sizeof a->marks) == 0;
+}
+
+static bool same_ledger(const nedrulov_ledger *a, const nedrulov_ledger *b)
+{
+    if (a->begun != b->begun || a->touched != b->touched || memcmp(&a->date, &b->date, sizeof a->date) != 0
+        || memcmp(&a->terms, &b->terms, sizeof a->terms) != 0)
+        return false;
+    for (int i = 0; i < NEDRULOV_ACCOUNTS; i++)
+        if (!same_account(&a->accounts[i], &b->accounts[i]))
+            return false;
+    return true;
+}
+
+/* The ledger between two guards, so that a library with a larger ledger would be seen to write past it. */
+typedef struct {
+    uint8_t before[64];
+    nedrulov_ledger ledger;
+    uint8_t after[64];
+} guarded;
+
+static bool guards_stand(const guarded *g)
+{
+    for (int i = 0; i < 64; i++)
+        if (g->before[i] != 0xA5 || g->after[i] != 0xA5)
+            return false;
+    return true;
+}
+
+static void post_both(guarded *lent, const uint8_t *entry, size_t length, size_t at)
+{
+    nedrulov_ledger before = lent->ledger;
+    nedrulov_posted posted = nedrulov_post_by_value(before, entry, length);
+    nedrulov_answer answer = nedrulov_post(&lent->ledger, entry, length);
+    expect(memcmp(&answer, &posted.answer, sizeof answer) == 0, "the answers differ", at);
+    expect(same_ledger(&lent->ledger, &posted.ledger), "the lent ledger differs", at);
+    expect(answer.number == 0 || same_ledger(&lent->ledger, &before), "a refusal changed the ledger", at);
+    expect(guards_stand(lent), "bytes around the ledger changed", at);
+}
+
+/* Each member has the name that the library gives it: a first day whose numbers are all told by hand. */
+static void first_day(void)
+{
+    static const uint8_t terms[32] = {1, 0, 0, 0, 0xEA, 0x07, 4, 1, 0xC0, 0xD4, 1, 0, 0x00, 0x53, 7, 0, 0xD0, 0x4C, 0x4C, 0,
+                                      150, 0, 0, 0, 0x06, 0x31, 0, 0, 32, 0, 0, 0};
+    static const uint8_t enrol[32] = {2, 3, 0, 2, 0xEA, 0x07, 4, 1, 0x68, 0x10, 0, 0, 0xE8, 3, 0, 0};
+    static const uint8_t sale[32] = {5, 3, 0, 0, 0xEA, 0x07, 4, 1, 70, 0, 0, 0};
+    static const uint8_t purchase[32] = {5, 3, 0, 1, 0xEA, 0x07, 4, 1, 20, 0, 0, 0};
+    static const uint8_t usage[32] = {7, 3, 0, 0, 0xEA, 0x07, 4, 1, 11, 0, 0, 0};
+    static const uint8_t deliver[32] = {3, 3, 0, 0, 0xEA, 0x07, 4, 1, 0xE8, 3, 0, 0, 0xB8, 11, 0, 0};
+    static const uint8_t close_day[32] = {8, 0, 0, 0, 0xEA, 0x07, 4, 1};
+    nedrulov_ledger l = nedrulov_fresh();
+    const nedrulov_account *a = &l.accounts[3];
+    expect(nedrulov_post(&l, terms, 32).number == 0, "TERMS", 0);
+    expect(l.begun && l.touched && l.date.year == 2026 && l.date.month == 4 && l.date.day == 1, "date", 0);
+    expect(l.terms.no_notice == 120000 && l.terms.design_day == 480000 && l.terms.storage == 5000400, "terms", 0);
+    expect(l.terms.retainage == 150 && l.terms.demand_rate == 12550 && l.terms.commodity_rate == 32, "rates", 0);
+    expect(nedrulov_post(&l, enrol, 32).number == 0, "ENROL", 0);
+    expect(a->opened && a->bank == 1000 && a->mdq == 4200 && a->step.k == 2 && a->step.pending == 2, "account", 0);
+    expect(a->capacity.mddq == 1500 && a->capacity.bcq == 62505, "capacity", 0);
+    expect(nedrulov_post(&l, sale, 32).number == 0 && nedrulov_post(&l, purchase, 32).number == 0, "TRADE", 0);
+    expect(a->month.sales == 70 && a->month.purchases == 20 && a->bank == 1050, "trades", 0);
+    expect(nedrulov_post(&l, usage, 32).number == 0 && a->month.usage == 11 && a->marks.metered, "USAGE", 0);
+    /* 1,000 delivered less 3,000 back-cast, after retainage */
+    expect(nedrulov_post(&l, deliver, 32).number == 0 && a->month.net == -1970 && a->bank == -920, "DELIVER", 0);
+    expect(a->marks.delivered && !a->marks.v1 && !a->marks.v2, "marks", 0);
+    nedrulov_answer closed = nedrulov_post(&l, close_day, 32);
+    expect(closed.number == 0 && closed.reports[3].mask == NEDRULOV_V7 && closed.reports[3].cash == 920, "CLOSE DAY", 0);
+    expect(a->bank == 0 && a->month.cash_ins == 920 && a->violation_days == 1 && l.date.day == 2 && !l.touched, "closed", 0);
+    expect(!a->marks.delivered && a->marks.metered, "marks after", 0);
+}
+
+static void archive_calls(const uint8_t *archive, size_t length, const uint8_t *list, size_t list_length)
+{
+    nedrulov_checked c = nedrulov_check(archive, length);
+    expect(c.number == 0 && c.index == 0, "check", 0);
+    c = nedrulov_check(archive, length - 1);
+    expect(c.number == NEDRULOV_WRONG_DIRECTORY && c.index == 0, "check of a shorter file", 0);
+    nedrulov_section_place p = nedrulov_place(archive, length, 0);
+    expect(p.number == 0 && p.start == (size_t)(list - archive), "place", 0);
+    p = nedrulov_place(archive, length, 12);
+    expect(p.number == NEDRULOV_NO_SECTION && p.start == 0 && p.length == 0, "place of no section", 0);
+    uint8_t *out = malloc(length + 1);
+    memset(out, 0xA5, length + 1);
+    nedrulov_written w = nedrulov_write(list, list_length, out, length - 1);
+    expect(w.number == NEDRULOV_TOO_SHORT && w.length == 0 && out[0] == 0xA5, "write to a short output", 0);
+    w = nedrulov_write(list, list_length, out, length + 1);
+    expect(w.number == 0 && w.length == length && memcmp(out, archive, length) == 0 && out[length] == 0xA5, "write", 0);
+    free(out);
+    nedrulov_replay_figures f = nedrulov_figures(archive, length);
+    expect(f.number == 0 && f.accepted == 1937 && f.refused == 3 && f.figure == 6288886, "figures", 0);
+    int64_t cells[NEDRULOV_CELLS + 1];
+    memset(cells, 0x5A, sizeof cells);
+    expect(nedrulov_year_sheet(archive, length, 2026, cells, 191) == NEDRULOV_TOO_SHORT, "short sheet", 0);
+    expect(cells[0] == 0x5A5A5A5A5A5A5A5A, "a short sheet was written to", 0);
+    expect(nedrulov_year_sheet(archive, length, 2026, cells, NEDRULOV_CELLS + 1) == 0, "sheet", 0);
+    int64_t last = 0;
+    for (int account = 0; account < NEDRULOV_ACCOUNTS; account++)
+        last += cells[NEDRULOV_MONTHS * account + 11];
+    expect(last == 6288886, "the sheet's last column", 0);
+    expect(cells[NEDRULOV_CELLS] == 0x5A5A5A5A5A5A5A5A, "a cell past the sheet changed", 0);
+}
+
+int main(int argc, char **argv)
+{
+    static uint8_t archive[1 << 20];
+    if (argc != 2)
+        return 2;
+    FILE *file = fopen(argv[1], "rb");
+    if (!file)
+        return 2;
+    size_t length = fread(archive, 1, sizeof archive, file);
+    fclose(file);
+    size_t body = 8 + 8 * (size_t)(archive[4] + 256 * archive[5]);
+
+    first_day();
+    archive_calls(archive, length, archive + body, length - body);
+    guarded lent;
+    memset(&lent, 0xA5, sizeof lent);
+    lent.ledger = nedrulov_fresh();
+    size_t posted = 0;
+    for (size_t at = body; at + 32 <= length; at += 32) {
+        post_both(&lent, archive + at, 31, at);
+        post_both(&lent, archive + at, 32, at);
+        posted++;
+    }
+    nedrulov_panel_answer shown = nedrulov_panel(lent.ledger);
+    expect(shown.number == 0 && shown.figure == 6288886, "panel", 0);
+    lent.ledger.accounts[15].violation_days = 40001;
+    shown = nedrulov_panel(lent.ledger);
+    expect(shown.number == NEDRULOV_LEDGER_RANGE && shown.figure == 0, "panel out of range", 0);
+    printf("door: %zu entries posted through both doors, %d failures\n", posted, failures);
+    return failures == 0 ? 0 : 1;
+}
