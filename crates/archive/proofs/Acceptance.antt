@@ -1,12 +1,12 @@
 -- What a 0 from the writer tells of a list, and a 0 from the reader of an archive: every check passed, and so the other way.
+use borrow.Author.Tests.{eqb-true, eqb-false, ltb-false, eq-eqb, le-ltb}
+use native.Mathlib.Omega.{arith}
 use Prim.Native.Nat.{ℕ, _%_, _≤_}
 use mathlib.Core.Path.{_≡_, refl, ap}
 use mathlib.Core.Bool.{Bool, true, false, cond}
 use mathlib.Core.List.{List, map}
-use native.Mathlib.Omega.{arith}
 use lib.Dec.{eqb, ltb}
 use lib.ListN.{length}
-use borrow.Author.Tests.{eqb-true, eqb-false, ltb-false, eq-eqb, le-ltb}
 use Rattle.tariff.proofs.Bools.{or-left, or-right}
 use Rattle.ledger.specs.Entries.{formNumber}
 use Rattle.archive.specs.Entries.{entriesOf, finding, firstRefusal}

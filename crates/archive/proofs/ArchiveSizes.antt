@@ -1,9 +1,9 @@
 -- How long an archive is, and that its three parts put one after the other are all of it.
+use native.Mathlib.Omega.{arith}
 use Prim.Native.Nat.{ℕ, _+_, _*_, _%_}
 use mathlib.Core.Path.{_≡_, refl, sym, ap, _∙_}
 use mathlib.Core.List.{List, _++_}
-use native.Mathlib.Omega.{arith}
-use lib.ListN.{length, take, drop, length-append}
+use lib.ListN.{length, drop, length-append}
 use lib.Seq.{paste, take-at, take-all, drop-drop, drop-append-add}
 use Rattle.archive.specs.Entries.{entriesOf}
 use Rattle.archive.specs.Layout.{sectionsOf, together, header, directory, bodyAt, packed, archiveOf}

@@ -1,8 +1,8 @@
 -- The directory: what is written for sections is read as their pairs, and what is read is so written.
+use native.Mathlib.Omega.{arith}
 use Prim.Native.Nat.{ℕ, zero, suc, _+_, _*_, _<_, _≤_}
 use mathlib.Core.Path.{_≡_, refl, sym, ap, _∙_}
 use mathlib.Core.List.{List, [], _∷_, _++_, append-assoc}
-use native.Mathlib.Omega.{arith}
 use lib.ListN.{length, take, drop, length-drop, length-append}
 use lib.Seq.{length-take-le, getD-drop, drop-drop, take-add, paste}
 use Rattle.archive.specs.Words.{bytesOf, wordAt}
@@ -89,10 +89,6 @@ directory-again a off i ss b h e = directory-bytes off ss ∙ ap pairBytes (sym 
 pub directory-next : (off : ℕ) (s : List ℕ) (ss : List (List ℕ)) → directory off (s ∷ ss) ≡ bytesOf 4 off ++ (bytesOf 4 (length s) ++ directory (off + length s) ss)
 unfolding directory
 directory-next off s ss = append-assoc (bytesOf 4 off) (bytesOf 4 (length s)) (directory (off + length s) ss)
-
-pub directory-none : (off : ℕ) → directory off [] ≡ []
-unfolding directory
-directory-none off = refl
 
 -- a word is put where the copy has come to
 module _ (d s x : List ℕ) (at j v : ℕ) (rest : List ℕ) (e : drop j s ≡ bytesOf 4 v ++ rest) where

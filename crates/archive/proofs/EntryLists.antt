@@ -1,10 +1,10 @@
 -- A list of bytes as its entries: one after the other, and some of them.
-use Prim.Native.Nat.{ℕ, zero, suc, _+_, _*_, _-_, _/_, _%_, _<_, _≤_}
-use mathlib.Core.Path.{_≡_, refl, sym, ap, _∙_}
-use mathlib.Core.List.{List, [], _∷_, _++_, append-assoc}
 use native.Mathlib.Omega.{arith}
 use native.Mathlib.Nat.{zero-add}
-use lib.ListN.{length, take, drop, length-take, length-drop, length-append}
+use Prim.Native.Nat.{ℕ, zero, suc, _+_, _*_, _-_, _/_, _%_, _<_, _≤_}
+use mathlib.Core.Path.{_≡_, refl, sym, ap, _∙_}
+use mathlib.Core.List.{List, [], _∷_, _++_}
+use lib.ListN.{length, take, drop, length-drop, length-append}
 use lib.Seq.{drop-drop, take-append-le, drop-append-le, take-add, take-all}
 use Rattle.archive.specs.Entries.{firstEntries, entriesOf}
 use Rattle.archive.specs.Layout.{together}

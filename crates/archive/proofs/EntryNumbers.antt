@@ -1,13 +1,13 @@
 -- The reader's number of one entry: 0 where its form is right, and its place in its section too.
+use borrow.Author.Tests.{eqb-true, eqb-false, not-false}
+use native.Mathlib.Omega.{arith}
 use Prim.Native.Nat.{ℕ}
 use mathlib.Core.Path.{_≡_, refl, ap}
 use mathlib.Core.Bool.{Bool, true, false, cond, not, _&&_}
 use mathlib.Core.List.{List, [], _∷_}
-use native.Mathlib.Omega.{arith}
 use lib.Dec.{eqb}
 use lib.ListN.{length}
 use lib.Seq.{take-all}
-use borrow.Author.Tests.{eqb-true, eqb-false, not-false}
 use Rattle.ledger.specs.Entries.{entryOf, entryNumber, formNumber}
 use Rattle.archive.specs.Entries.{firstEntries, entriesOf, closesMonth}
 use Rattle.archive.specs.Reading.{misplaced, numberIn}

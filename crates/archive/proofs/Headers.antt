@@ -1,13 +1,13 @@
 -- The first eight bytes: what the writer puts there, what the reader asks of them, and that the two agree.
+use borrow.Author.Tests.{eqb-true, ltb-false, eq-eqb, le-ltb, not-false}
+use native.Mathlib.Omega.{arith}
 use Prim.Native.Nat.{ℕ, _+_, _*_, _/_, _%_, _<_, _≤_}
 use mathlib.Core.Path.{_≡_, refl}
 use mathlib.Core.Bool.{true, false}
 use mathlib.Core.List.{List, [], _∷_, _++_}
-use native.Mathlib.Omega.{arith}
 use lib.Dec.{eqb}
 use lib.ListN.{length, getD, take}
 use lib.Seq.{take-suc}
-use borrow.Author.Tests.{eqb-true, ltb-false, eq-eqb, le-ltb, not-false}
 use Rattle.tariff.proofs.Bools.{and-left, and-right, or-left, or-right}
 use Rattle.archive.specs.Words.{bytesOf, halfAt}
 use Rattle.archive.specs.Layout.{header, bodyAt}

@@ -1,8 +1,8 @@
 -- The entries that an archive holds, and a replay by its parts.
-use Prim.Native.Nat.{ℕ, _+_, _*_, _-_}
-use mathlib.Core.Path.{_≡_, refl, sym, ap, _∙_}
-use mathlib.Core.List.{List, []}
 use borrow.Author.Tests.{eq-eqb, ne-eqb}
+use Prim.Native.Nat.{ℕ, _+_, _*_, _-_}
+use mathlib.Core.Path.{_≡_, ap, _∙_}
+use mathlib.Core.List.{List, []}
 use lib.ListN.{length, take, drop}
 use Rattle.archive.specs.Entries.{entriesOf}
 use Rattle.archive.specs.Layout.{bodyAt}

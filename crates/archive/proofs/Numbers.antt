@@ -1,8 +1,8 @@
 -- A number through its bytes and back, at any width.
+use native.Mathlib.Omega.{arith}
 use Prim.Native.Nat.{ℕ, zero, suc, _+_, _*_, _/_, _%_, _<_, _≤_}
 use mathlib.Core.Path.{_≡_, refl, sym, ap, _∙_}
 use mathlib.Core.List.{List, [], _∷_, _++_}
-use native.Mathlib.Omega.{arith}
 use lib.ListN.{length, getD, take, drop}
 use lib.Seq.{drop-at, drop-cons}
 use Rattle.archive.specs.Words.{valueOf, bytesOf, halfAt, wordAt}

@@ -1,10 +1,10 @@
 -- The directory's pairs, as a loop meets them, and what a right directory says of each.
-use Prim.Native.Nat.{ℕ, zero, suc, _+_, _*_, _-_, _%_, _<_, _≤_}
-use mathlib.Core.Path.{_≡_, refl, sym, ap, _∙_}
-use mathlib.Core.Bool.{Bool, true, false, _&&_}
-use mathlib.Core.List.{List, [], _∷_}
-use native.Mathlib.Omega.{arith}
 use borrow.Author.Tests.{eqb-true, ltb-true}
+use native.Mathlib.Omega.{arith}
+use Prim.Native.Nat.{ℕ, zero, suc, _+_, _*_, _-_, _%_, _<_, _≤_}
+use mathlib.Core.Path.{_≡_, refl, ap}
+use mathlib.Core.Bool.{true, false, _&&_}
+use mathlib.Core.List.{List, [], _∷_}
 use lib.Dec.{eqb, ltb}
 use lib.ListN.{length}
 use Rattle.tariff.proofs.Bools.{and-left, and-right}
@@ -24,10 +24,6 @@ pub length-pairs : (a : List ℕ) (i n : ℕ) → length (pairsFrom a i n) ≡ n
 unfolding pairsFrom
 length-pairs a i zero = refl
 length-pairs a i (suc n) = ap suc (length-pairs a (i + 1) n)
-
-pub body-is : (n : ℕ) → bodyAt n ≡ 8 + 8 * n
-unfolding bodyAt
-body-is n = refl
 
 pub pair-words : (a : List ℕ) (i o l : ℕ) → o ≡ wordAt a (8 + 8 * i) → l ≡ wordAt a (12 + 8 * i) → _≡_ {A = Pair} (o, l) (pairAt a i)
 unfolding pairAt

@@ -1,12 +1,12 @@
 -- Sections against the entries that they hold: what the writer cuts passes the reader's check, and what passes is so cut.
+use borrow.Author.Tests.{eqb-true, ne-eqb}
+use native.Mathlib.Omega.{arith}
 use Prim.Native.Nat.{ℕ, suc, _/_, _%_, _<_}
 use mathlib.Core.Path.{_≡_, refl, ap, _∙_}
 use mathlib.Core.Bool.{Bool, true, false, cond}
 use mathlib.Core.List.{List, [], _∷_, _++_, map, map-append, append-assoc, append-nil}
-use native.Mathlib.Omega.{arith}
 use lib.Dec.{eqb, eqb·suc-zero}
 use lib.ListN.{length, length-append}
-use borrow.Author.Tests.{eqb-true, ne-eqb}
 use Rattle.ledger.specs.Entries.{formNumber}
 use Rattle.archive.specs.Entries.{firstEntries, entriesOf, closesMonth}
 use Rattle.archive.specs.Layout.{joined, sectionsOf, together}

@@ -1,9 +1,9 @@
 -- Bytes stored one after the other, a part that is lent to a filler and comes back, and a run of such fills.
-use Prim.Native.Nat.{ℕ, suc, _+_, _-_, _≤_}
-use mathlib.Core.Path.{_≡_, refl, sym, ap, _∙_}
-use mathlib.Core.List.{List, [], _∷_, _++_, append-nil, append-assoc}
 use native.Mathlib.Omega.{arith}
 use native.Mathlib.Nat.{add-assoc, add-sub-cancel-left}
+use Prim.Native.Nat.{ℕ, suc, _+_, _-_, _≤_}
+use mathlib.Core.Path.{_≡_, sym, ap, _∙_}
+use mathlib.Core.List.{List, [], _∷_, _++_, append-nil, append-assoc}
 use lib.ListN.{length, take, drop, set, length-drop}
 use lib.Seq.{paste, sets-eq, take-all, take-take, length-take-le, drop-length, drop-drop, take-add, take-paste, drop-paste}
 

@@ -1,10 +1,10 @@
 -- What a check of many numbers tells: none is refused where all are 0, and only there.
+use borrow.Author.Tests.{eqb-true, eqb-false}
 use Prim.Native.Nat.{ℕ, _+_}
 use mathlib.Core.Path.{_≡_, refl}
 use mathlib.Core.Bool.{Bool, true, false, cond}
 use mathlib.Core.List.{List, [], _∷_, _++_}
 use lib.Dec.{eqb}
-use borrow.Author.Tests.{eqb-true, eqb-false}
 use Rattle.archive.specs.Entries.{finding, firstRefusal}
 use Rattle.archive.specs.declared.entries.Checked.{Checked}
 

@@ -2,8 +2,7 @@
 use Prim.Native.Nat.{ℕ, _+_, _*_, _-_, _<_, _≤_}
 use mathlib.Core.Path.{_≡_, refl, sym, ap, _∙_}
 use mathlib.Core.Bool.{Bool, true, false, cond}
-use mathlib.Core.List.{List, [], _∷_}
-use native.Mathlib.Omega.{arith}
+use mathlib.Core.List.{List}
 use lib.Dec.{eqb}
 use lib.ListN.{take, drop}
 use Rattle.ledger.specs.Posting.{posted}

@@ -1,13 +1,13 @@
 -- The pairs as parts of the file, one after the other up to its end.
+use borrow.Author.Tests.{eqb-true, ltb-true, eq-eqb, lt-ltb}
+use native.Mathlib.Omega.{arith}
 use Prim.Native.Nat.{ℕ, zero, suc, _+_, _%_, _<_, _≤_}
 use mathlib.Core.Path.{_≡_, refl, sym, ap, _∙_, subst}
 use mathlib.Core.Bool.{true}
 use mathlib.Core.List.{List, [], _∷_, _++_, map, append-assoc}
-use native.Mathlib.Omega.{arith}
 use lib.Dec.{eqb, ltb}
 use lib.ListN.{length, getD, take, drop, length-drop, length-append, take-append-drop, drop-of-length-le}
 use lib.Seq.{length-take-le, drop-drop, take-at, drop-at}
-use borrow.Author.Tests.{eqb-true, ltb-true, eq-eqb, lt-ltb}
 use Rattle.tariff.proofs.Bools.{and-left, and-right}
 use Rattle.archive.specs.Layout.{together}
 use Rattle.archive.specs.Reading.{Pair, pairAt, pairsFrom, rightLength, rightPairs, partAt}

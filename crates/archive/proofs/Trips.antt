@@ -1,10 +1,10 @@
 -- Both round trips: a list that is written reads back, and an archive that is read is written again.
+use borrow.Author.Tests.{lt-ltb}
+use native.Mathlib.Nat.{zero-add}
 use Prim.Native.Nat.{ℕ, _<_, _≤_}
 use mathlib.Core.Path.{_≡_, sym, ap, _∙_}
 use mathlib.Core.List.{List, []}
-use native.Mathlib.Nat.{zero-add}
 use lib.ListN.{length, getD}
-use borrow.Author.Tests.{lt-ltb}
 use Rattle.archive.specs.Entries.{entriesOf, finding}
 use Rattle.archive.specs.Layout.{sectionsOf, together, packed, archiveOf}
 use Rattle.archive.specs.Reading.{sectionCount, pairAt, pairsOf, partAt, partsOf, checked, placeOf, sectionAt, listOf}

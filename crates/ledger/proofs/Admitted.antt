@@ -121,8 +121,5 @@ module _ (l : Ledger) (e : Entry) (h : admission l e ≡ 0) where
   pub measure-fits : e .kind ≡ 6 → e .w1 ≤ 300000
   measure-fits k = leb-true (e .w1) 300000 (words-of 6 k)
 
-  pub usage-fits : e .kind ≡ 7 → e .w1 ≤ 100000000
-  usage-fits k = leb-true (e .w1) 100000000 (words-of 7 k)
-
   pub prices-fit : e .kind ≡ 9 → pricesInRange (pricesOf e) ≡ true
   prices-fit k = words-of 9 k
