@@ -1,0 +1,48 @@
+//! Compares the proved library with the referee, and races them.
+
+mod amounts;
+mod archives;
+mod both;
+mod boundaries;
+mod compare;
+mod convert;
+mod damage;
+mod edits;
+mod entries;
+mod gas_year;
+mod hostile;
+mod ledgers;
+mod measuring;
+mod noise;
+mod race;
+mod random;
+mod reached;
+mod run;
+mod years;
+
+use std::process::ExitCode;
+
+const USAGE: &str =
+    "usage: referee compare [--seconds N] [--seed S] [--kind a|b|c|d|e]\n       referee race";
+
+fn main() -> ExitCode {
+    let words: Vec<String> = std::env::args().skip(1).collect();
+    let done = match words.first().map(String::as_str) {
+        Some("compare") => {
+            compare::Options::read(&words[1..]).map(|options| compare::run(&options))
+        }
+        Some("race") if words.len() == 1 => {
+            race::run();
+            Some(true)
+        }
+        _ => None,
+    };
+    match done {
+        Some(true) => ExitCode::SUCCESS,
+        Some(false) => ExitCode::FAILURE,
+        None => {
+            eprintln!("{USAGE}");
+            ExitCode::from(2)
+        }
+    }
+}
