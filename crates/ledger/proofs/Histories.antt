@@ -16,20 +16,22 @@ use Rattle.ledger.specs.State.{noTotals, nobody, fresh, accountAt}
 use Rattle.ledger.specs.Ranges.{totalsInRange, stepInRange, accountInRange, everyAccount, inRange}
 use Rattle.ledger.specs.Answers.{refused}
 use Rattle.ledger.specs.Terms.{postTerms}
-use Rattle.ledger.specs.Enrol.{postEnrol}
-use Rattle.ledger.specs.Deliver.{postDeliver}
+use Rattle.ledger.specs.Enrol.{enrolment}
+use Rattle.ledger.specs.Deliver.{delivery}
 use Rattle.ledger.specs.Transfer.{postTransfer}
-use Rattle.ledger.specs.Trade.{postTrade}
-use Rattle.ledger.specs.Measure.{postMeasure}
-use Rattle.ledger.specs.Usage.{postUsage}
+use Rattle.ledger.specs.Trade.{trade}
+use Rattle.ledger.specs.Measure.{measurement}
+use Rattle.ledger.specs.Usage.{usage}
 use Rattle.ledger.specs.Closing.{postClosing, closingChecks, closed}
-use Rattle.ledger.specs.Posting.{admission, postKind, postEntry, posted}
+use Rattle.ledger.specs.Posting.{admission, concernsSeveral, postSeveral, changeOf, stored, postKind, postEntry, posted}
 use Rattle.ledger.specs.Panel.{openBank, openBanks, panelOf}
 use Rattle.ledger.specs.History.{Line, history, run, isAccepted, accepted, opening, deliveries, rateAfter, sale, purchase, transferIn, transferOut, cashIn, cashOut, forfeited, billed, violated, sumOf, countOf, overFirst, overAll, figureSum, bankOf, owedOf, daysOf, remaining, bytesOf, BanksAddUp, PanelAddsUp, DebtsAddUp, DaysAddUp, StrikingChangesNothing}
 use Rattle.ledger.specs.declared.state.Account.{Account}
 use Rattle.ledger.specs.declared.state.Ledger.{Ledger}
 use Rattle.ledger.specs.declared.entries.Entry.{Entry}
-use Rattle.ledger.proofs.Admitted.{is-kind, next-up}
+use Rattle.ledger.specs.declared.answers.Change.{Change}
+use Rattle.ledger.proofs.Admitted.{is-kind}
+use Rattle.ledger.proofs.KindCases.{several-closes, concerns-one}
 use Rattle.ledger.proofs.Sums.{chain, chain-balanced, over-cong, over-add, over-chain, banks-over}
 use Rattle.ledger.proofs.Moves.{line, moved, total, total-next, total-none, total-is, total-sum, same}
 use Rattle.ledger.proofs.OneStep.{Rated, Step, step-refused, step-settle}
@@ -37,6 +39,9 @@ use Rattle.ledger.proofs.StepKinds.{takes-terms, takes-enrol, takes-del
 use Rattle.ledger.proofs.StepClosing.{step-closed}
 
 -- ---- one posting
+
+last-kind : (k : ℕ) → 1 ≤ k → ((k ≡ 1 → ⊥) × (k ≡ 4 → ⊥) × (k ≤ 7)) → (k ≡ 2 → ⊥) → (k ≡ 3 → ⊥) → (k ≡ 5 → ⊥) → (k ≡ 6 → ⊥) → k ≡ 7
+last-kind k h c n2 n3 n5 n6 = omega (arith, c .0, c .1, c .2)
 
 module _ (l : Ledger) (b : List ℕ) (n : length (l .accounts) ≡ 16) where
   abbrev e : Entry
@@ -49,19 +54,30 @@ module _ (l : Ledger) (b : List ℕ) (n : length (l .accounts) ≡ 16) where
       (λ o. step-closed l b n h k (eqb-true (verdict (closingChecks l e)) 0 o))
       (λ o. step-refused l b n (verdict (closingChecks l e)) o)
 
-  step-kind : admission l e ≡ 0 → Step l b (postKind l e)
-  unfolding postKind postTerms postEnrol postDeliver postTransfer postTrade postMeasure postUsage
-  step-kind h =
+  step-several : admission l e ≡ 0 → concernsSeveral (e .kind) ≡ true → Step l b (postSeveral l e)
+  unfolding postSeveral postTerms postTransfer
+  step-several h s =
       either (Step l b) (eqb (e .kind) 1) (postTerms l e) _ (λ k. step-settle l b n _ _ (takes-terms l b n h (eqb-true (e .kind) 1 k)))
-      (λ k1. either (Step l b) (eqb (e .kind) 2) (postEnrol l e) _ (λ k. step-settle l b n _ _ (takes-enrol l b n h (eqb-true (e .kind) 2 k)))
-      (λ k2. either (Step l b) (eqb (e .kind) 3) (postDeliver l e) _ (λ k. step-settle l b n _ _ (takes-deliver l b n h (eqb-true (e .kind) 3 k)))
-      (λ k3. either (Step l b) (eqb (e .kind) 4) (postTransfer l e) _ (λ k. step-settle l b n _ _ (takes-transfer l b n h (eqb-true (e .kind) 4 k)))
-      (λ k4. either (Step l b) (eqb (e .kind) 5) (postTrade l e) _ (λ k. step-settle l b n _ _ (takes-trade l b n h (eqb-true (e .kind) 5 k)))
-      (λ k5. either (Step l b) (eqb (e .kind) 6) (postMeasure l e) _ (λ k. step-settle l b n _ _ (takes-measure l b n h (eqb-true (e .kind) 6 k)))
-      (λ k6. either (Step l b) (eqb (e .kind) 7) (postUsage l e) (postClosing l e) (λ k. step-settle l b n _ _ (takes-usage l b n h (eqb-true (e .kind) 7 k)))
-      (λ k7. step-closing h
-      (next-up 7 (e .kind) (next-up 6 (e .kind) (next-up 5 (e .kind) (next-up 4 (e .kind) (next-up 3 (e .kind) (next-up 2 (e .kind) (next-up 1 (e .kind) (is-kind l e h .0)
-      (eqb-false (e .kind) 1 k1)) (eqb-false (e .kind) 2 k2)) (eqb-false (e .kind) 3 k3)) (eqb-false (e .kind) 4 k4)) (eqb-false (e .kind) 5 k5)) (eqb-false (e .kind) 6 k6)) (eqb-false (e .kind) 7 k7)))))))))
+      (λ k1. either (Step l b) (eqb (e .kind) 4) (postTransfer l e) (postClosing l e) (λ k. step-settle l b n _ _ (takes-transfer l b n h (eqb-true (e .kind) 4 k)))
+      (λ k4. step-closing h (several-closes (e .kind) s (eqb-false (e .kind) 1 k1) (eqb-false (e .kind) 4 k4))))
+
+  abbrev old : Account
+  old = accountAt l (entryOf b .a)
+
+  step-one : admission l e ≡ 0 → concernsSeveral (e .kind) ≡ false → Step l b (stored l (e .a) (changeOf (l .terms) old e))
+  unfolding changeOf stored enrolment delivery trade measurement usage
+  step-one h s =
+      either (λ (c : Change). Step l b (stored l (e .a) c)) (eqb (e .kind) 2) (enrolment (l .terms) old e) _ (λ k. step-settle l b n _ _ (takes-enrol l b n h (eqb-true (e .kind) 2 k)))
+      (λ k2. either (λ (c : Change). Step l b (stored l (e .a) c)) (eqb (e .kind) 3) (delivery (l .terms) old e) _ (λ k. step-settle l b n _ _ (takes-deliver l b n h (eqb-true (e .kind) 3 k)))
+      (λ k3. either (λ (c : Change). Step l b (stored l (e .a) c)) (eqb (e .kind) 5) (trade old e) _ (λ k. step-settle l b n _ _ (takes-trade l b n h (eqb-true (e .kind) 5 k)))
+      (λ k5. either (λ (c : Change). Step l b (stored l (e .a) c)) (eqb (e .kind) 6) (measurement old e) (usage old e) (λ k. step-settle l b n _ _ (takes-measure l b n h (eqb-true (e .kind) 6 k)))
+      (λ k6. step-settle l b n _ _ (takes-usage l b n h
+      (last-kind (e .kind) (is-kind l e h .0) (concerns-one (e .kind) s) (eqb-false (e .kind) 2 k2) (eqb-false (e .kind) 3 k3) (eqb-false (e .kind) 5 k5) (eqb-false (e .kind) 6 k6)))))))
+
+  step-kind : admission l e ≡ 0 → Step l b (postKind l e)
+  unfolding postKind
+  step-kind h =
+      either (Step l b) (concernsSeveral (e .kind)) (postSeveral l e) (stored l (e .a) (changeOf (l .terms) old e)) (step-several h) (step-one h)
 
   step : Step l b (posted l b)
   unfolding posted postEntry

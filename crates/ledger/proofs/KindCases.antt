@@ -1,22 +1,28 @@
 -- What depends on the kind, at a kind that is known.
-use Prim.Native.Nat.{ℕ}
+use Prim.Native.Nat.{ℕ, _≤_}
 use mathlib.Core.Path.{_≡_, ap}
-use mathlib.Core.Bool.{Bool, true, cond, _&&_}
+use mathlib.Core.Bool.{Bool, true, false, cond, _&&_, _||_}
+use native.Mathlib.Omega.{arith}
 use lib.Dec.{leb, eqb}
+use borrow.Author.Tests.{leb-true, leb-false, eqb-false, ne-eqb}
 use Rattle.tariff.specs.Terms.{termsInRange}
 use Rattle.tariff.specs.Bill.{pricesInRange}
+use Rattle.tariff.specs.declared.terms.Terms.{Terms}
+use Rattle.tariff.proofs.Bools.{or-left, or-right}
 use Rattle.ledger.specs.Entries.{termsOf, pricesOf, someUnits, wordsInRange}
 use Rattle.ledger.specs.Terms.{postTerms}
-use Rattle.ledger.specs.Enrol.{postEnrol}
-use Rattle.ledger.specs.Deliver.{postDeliver}
+use Rattle.ledger.specs.Enrol.{enrolment}
+use Rattle.ledger.specs.Deliver.{delivery}
 use Rattle.ledger.specs.Transfer.{postTransfer}
-use Rattle.ledger.specs.Trade.{postTrade}
-use Rattle.ledger.specs.Measure.{postMeasure}
-use Rattle.ledger.specs.Usage.{postUsage}
+use Rattle.ledger.specs.Trade.{trade}
+use Rattle.ledger.specs.Measure.{measurement}
+use Rattle.ledger.specs.Usage.{usage}
 use Rattle.ledger.specs.Closing.{postClosing}
-use Rattle.ledger.specs.Posting.{postKind}
+use Rattle.ledger.specs.Posting.{concernsSeveral, postSeveral, changeOf}
+use Rattle.ledger.specs.declared.state.Account.{Account}
 use Rattle.ledger.specs.declared.state.Ledger.{Ledger}
 use Rattle.ledger.specs.declared.entries.Entry.{Entry}
+use Rattle.ledger.specs.declared.answers.Change.{Change}
 use Rattle.ledger.specs.declared.answers.Posted.{Posted}
 
 abbrev pub wordsBy : Entry → ℕ → Bool
@@ -35,17 +41,34 @@ pub words-at : (e : Entry) (n : ℕ) → e .kind ≡ n → wordsInRange e ≡ wo
 unfolding wordsInRange
 words-at e n k = ap (wordsBy e) k
 
-abbrev pub postBy : Ledger → Entry → ℕ → Posted
-postBy l e n =
-    cond (eqb n 1) (postTerms l e)
-    (cond (eqb n 2) (postEnrol l e)
-    (cond (eqb n 3) (postDeliver l e)
-    (cond (eqb n 4) (postTransfer l e)
-    (cond (eqb n 5) (postTrade l e)
-    (cond (eqb n 6) (postMeasure l e)
-    (cond (eqb n 7) (postUsage l e)
-    (postClosing l e)))))))
+abbrev pub severalBy : Ledger → Entry → ℕ → Posted
+severalBy l e n = cond (eqb n 1) (postTerms l e) (cond (eqb n 4) (postTransfer l e) (postClosing l e))
 
-pub post-at : (l : Ledger) (e : Entry) (n : ℕ) → e .kind ≡ n → postKind l e ≡ postBy l e n
-unfolding postKind
-post-at l e n k = ap (postBy l e) k
+pub several-at : (l : Ledger) (e : Entry) (n : ℕ) → e .kind ≡ n → postSeveral l e ≡ severalBy l e n
+unfolding postSeveral
+several-at l e n k = ap (severalBy l e) k
+
+abbrev pub changeBy : Terms → Account → Entry → ℕ → Change
+changeBy t a e n =
+    cond (eqb n 2) (enrolment t a e)
+    (cond (eqb n 3) (delivery t a e)
+    (cond (eqb n 5) (trade a e)
+    (cond (eqb n 6) (measurement a e)
+    (usage a e))))
+
+pub change-at : (t : Terms) (a : Account) (e : Entry) (n : ℕ) → e .kind ≡ n → changeOf t a e ≡ changeBy t a e n
+unfolding changeOf
+change-at t a e n k = ap (changeBy t a e) k
+
+-- ---- which kinds concern one account
+
+pub several-closes : (k : ℕ) → concernsSeveral k ≡ true → (k ≡ 1 → ⊥) → (k ≡ 4 → ⊥) → 8 ≤ k
+unfolding concernsSeveral
+several-closes k s n1 n4 = leb-true 8 k (rw (ne-eqb k 1 n1, ne-eqb k 4 n4) at s)
+
+pub concerns-one : (k : ℕ) → concernsSeveral k ≡ false → (k ≡ 1 → ⊥) × (k ≡ 4 → ⊥) × (k ≤ 7)
+unfolding concernsSeveral
+concerns-one k s =
+    let two : eqb k 1 || eqb k 4 ≡ false = or-left (eqb k 1 || eqb k 4) (leb 8 k) s in
+    let small = leb-false 8 k (or-right (eqb k 1 || eqb k 4) (leb 8 k) s) in
+    (eqb-false k 1 (or-left (eqb k 1) (eqb k 4) two), eqb-false k 4 (or-right (eqb k 1) (eqb k 4) two), omega (arith, small))

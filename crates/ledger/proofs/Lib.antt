@@ -2,7 +2,9 @@ pub mod Verdicts
 pub mod Lists
 pub mod Bounded
 pub mod KindCases
+pub mod RightEntries
 pub mod Admitted
+pub mod OneAccount
 pub mod Closable
 pub mod Banks
 pub mod Sums

@@ -126,23 +126,23 @@ module _ (l : Ledger) (b : List ℕ) (n : length (l .accounts) ≡ 16) (h : admi
         balanced = no-transfers b 1 k refl;
       }
 
-  pub takes-enrol : e .kind ≡ 2 → verdict (enrolChecks l e) ≡ 0 → Taken l b (withAccount l (e .a) (enrolled l e))
+  pub takes-enrol : e .kind ≡ 2 → verdict (enrolChecks (l .terms) old e) ≡ 0 → Taken l b (withAccount l (e .a) (enrolled (l .terms) e))
   unfolding enrolChecks enrolled newAccount openBank
   takes-enrol k o =
       let shut : old .opened ≡ false = clear _ refl o 1 in
-      stores l b n 2 k refl refl (enrolled l e) (λ _. pos (e .w2)) (a-fits l e h (omega arith) (omega arith)) (is-ranged l e h)
-      (not-false (accountInRange (enrolled l e)) (clear _ refl o 4))
+      stores l b n 2 k refl refl (enrolled (l .terms) e) (λ _. pos (e .w2)) (a-fits l e h (omega arith) (omega arith)) (is-ranged l e h)
+      (not-false (accountInRange (enrolled (l .terms) e)) (clear _ refl o 4))
       (sym (not-chosen (old .opened) (old .owed .0) (pos 0) shut))
       (sym (not-chosen (old .opened) (old .«violation_days») 0 shut))
       (λ r q. amount-value (record { 0 = e .w2 }) ∙ sym (ap (λ (z : ℤ). z +ℤ pos (e .w2)) (not-chosen (old .opened) (old .bank .0) (pos 0) shut) ∙ +ℤ-idl (pos (e .w2))))
       (λ r i. enrol-moves i r b k)
 
-  pub takes-deliver : e .kind ≡ 3 → verdict (deliverChecks l e) ≡ 0 → Taken l b (withAccount l (e .a) (afterDelivery l e))
+  pub takes-deliver : e .kind ≡ 3 → verdict (deliverChecks (l .terms .retainage) old e) ≡ 0 → Taken l b (withAccount l (e .a) (afterDelivery (l .terms .retainage) old e))
   unfolding deliverChecks afterDelivery delivered withMarks withMonth withBank openBank
   takes-deliver k o =
       let open′ : old .opened ≡ true = not-false (old .opened) (clear _ refl o 0) in
-      stores l b n 3 k refl refl (afterDelivery l e) (λ r. amountUnder r e .0) (a-fits l e h (omega arith) (omega arith)) (is-ranged l e h)
-      (not-false (accountInRange (afterDelivery l e)) (clear _ refl o 2))
+      stores l b n 3 k refl refl (afterDelivery (l .terms .retainage) old e) (λ r. amountUnder r e .0) (a-fits l e h (omega arith) (omega arith)) (is-ranged l e h)
+      (not-false (accountInRange (afterDelivery (l .terms .retainage) old e)) (clear _ refl o 2))
       refl
       refl
       (λ r q.
@@ -152,12 +152,12 @@ module _ (l : Ledger) (b : List ℕ) (n : length (l .accounts) ≡ 16) (h : admi
       ∙ ap (λ (z : ℤ). z +ℤ amountUnder r e .0) (sym (chosen (old .opened) (old .bank .0) (pos 0) open′)))
       (λ r i. deliver-moves i r b k)
 
-  pub takes-trade : e .kind ≡ 5 → verdict (tradeChecks l e) ≡ 0 → Taken l b (withAccount l (e .a) (afterTrade l e))
+  pub takes-trade : e .kind ≡ 5 → verdict (tradeChecks old e) ≡ 0 → Taken l b (withAccount l (e .a) (afterTrade old e))
   unfolding tradeChecks afterTrade traded withMonth withBank openBank
   takes-trade k o =
       let open′ : old .opened ≡ true = not-false (old .opened) (clear _ refl o 0) in
-      stores l b n 5 k refl refl (afterTrade l e) (λ _. cond (companySells e) (pos (e .w1)) (negℤ (pos (e .w1)))) (a-fits l e h (omega arith) (omega arith)) (is-ranged l e h)
-      (not-false (accountInRange (afterTrade l e)) (clear _ refl o 2))
+      stores l b n 5 k refl refl (afterTrade old e) (λ _. cond (companySells e) (pos (e .w1)) (negℤ (pos (e .w1)))) (a-fits l e h (omega arith) (omega arith)) (is-ranged l e h)
+      (not-false (accountInRange (afterTrade old e)) (clear _ refl o 2))
       refl
       refl
       (λ r q.
@@ -170,21 +170,21 @@ module _ (l : Ledger) (b : List ℕ) (n : length (l .accounts) ≡ 16) (h : admi
       by-side true = more-value (old .bank) (record { 0 = e .w1 })
       by-side false = less-value (old .bank) (record { 0 = e .w1 })
 
-  pub takes-measure : e .kind ≡ 6 → verdict (measureChecks l e) ≡ 0 → Taken l b (withAccount l (e .a) (afterMeasure l e))
+  pub takes-measure : e .kind ≡ 6 → verdict (measureChecks old e) ≡ 0 → Taken l b (withAccount l (e .a) (afterMeasure old e))
   unfolding measureChecks afterMeasure remeasured withMarks withMeasure openBank
   takes-measure k o =
-      stores l b n 6 k refl refl (afterMeasure l e) (λ _. pos 0) (a-fits l e h (omega arith) (omega arith)) (is-ranged l e h)
-      (not-false (accountInRange (afterMeasure l e)) (clear _ refl o 3))
+      stores l b n 6 k refl refl (afterMeasure old e) (λ _. pos 0) (a-fits l e h (omega arith) (omega arith)) (is-ranged l e h)
+      (not-false (accountInRange (afterMeasure old e)) (clear _ refl o 3))
       refl
       refl
       (λ r q. sym (+ℤ-idr (openBank old)))
       (λ r i. measure-moves i r b k ∙ sym (either-way (eqb (e .a) i) (pos 0)))
 
-  pub takes-usage : e .kind ≡ 7 → verdict (usageChecks l e) ≡ 0 → Taken l b (withAccount l (e .a) (afterUsage l e))
+  pub takes-usage : e .kind ≡ 7 → verdict (usageChecks old e) ≡ 0 → Taken l b (withAccount l (e .a) (afterUsage old e))
   unfolding usageChecks afterUsage metered withMarks withMonth openBank
   takes-usage k o =
-      stores l b n 7 k refl refl (afterUsage l e) (λ _. pos 0) (a-fits l e h (omega arith) (omega arith)) (is-ranged l e h)
-      (not-false (accountInRange (afterUsage l e)) (clear _ refl o 2))
+      stores l b n 7 k refl refl (afterUsage old e) (λ _. pos 0) (a-fits l e h (omega arith) (omega arith)) (is-ranged l e h)
+      (not-false (accountInRange (afterUsage old e)) (clear _ refl o 2))
       refl
       refl
       (λ r q. sym (+ℤ-idr (openBank old)))

@@ -8,15 +8,14 @@ use Rattle.tariff.specs.declared.amounts.Quantity.{Quantity}
 use Rattle.tariff.specs.declared.amounts.Units.{Units}
 use Rattle.tariff.specs.declared.bill.Totals.{Totals}
 use Rattle.tariff.specs.declared.months.Month.{Month}
+use Rattle.tariff.specs.declared.terms.Terms.{Terms}
 use Rattle.ledger.specs.Checks.{Check, verdict}
-use Rattle.ledger.specs.State.{accountAt, withBank, withMonth, withMarks, withAccount}
+use Rattle.ledger.specs.State.{withBank, withMonth, withMarks}
 use Rattle.ledger.specs.Ranges.{accountInRange}
-use Rattle.ledger.specs.Answers.{settle}
 use Rattle.ledger.specs.declared.state.Account.{Account}
-use Rattle.ledger.specs.declared.state.Ledger.{Ledger}
 use Rattle.ledger.specs.declared.state.Marks.{Marks}
 use Rattle.ledger.specs.declared.entries.Entry.{Entry}
-use Rattle.ledger.specs.declared.answers.Posted.{Posted}
+use Rattle.ledger.specs.declared.answers.Change.{Change}
 
 unfoldable pub withNet : Totals → Units → Totals
 withNet m net =
@@ -51,17 +50,13 @@ delivered m a amount backCast =
 unfoldable pub amountUnder : ℕ → Entry → Units
 amountUnder retainage e = retained retainage (record { 0 = e .w1 }) (record { 0 = e .w2 })
 
-unfoldable pub afterDelivery : Ledger → Entry → Account
-afterDelivery l e =
-    delivered (e .date .month) (accountAt l (e .a)) (amountUnder (l .terms .retainage) e) (record { 0 = e .w2 })
+unfoldable pub afterDelivery : ℕ → Account → Entry → Account
+afterDelivery retainage a e = delivered (e .date .month) a (amountUnder retainage e) (record { 0 = e .w2 })
 
 -- "24 … another kind on one not open"; "26 second DELIVER that day"
-unfoldable pub deliverChecks : Ledger → Entry → List Check
-deliverChecks l e =
-    (not (accountAt l (e .a) .opened), 24)
-    ∷ (accountAt l (e .a) .marks .delivered, 26)
-    ∷ (not (accountInRange (afterDelivery l e)), 29)
-    ∷ []
+unfoldable pub deliverChecks : ℕ → Account → Entry → List Check
+deliverChecks retainage a e =
+    (not (a .opened), 24) ∷ (a .marks .delivered, 26) ∷ (not (accountInRange (afterDelivery retainage a e)), 29) ∷ []
 
-unfoldable pub postDeliver : Ledger → Entry → Posted
-postDeliver l e = settle l (verdict (deliverChecks l e)) (withAccount l (e .a) (afterDelivery l e))
+unfoldable pub delivery : Terms → Account → Entry → Change
+delivery t a e = record { number = verdict (deliverChecks (t .retainage) a e); account = afterDelivery (t .retainage) a e }

@@ -12,13 +12,11 @@ use Rattle.tariff.specs.declared.amounts.Quantity.{Quantity}
 use Rattle.tariff.specs.declared.terms.Terms.{Terms}
 use Rattle.ledger.specs.Checks.{Check, verdict}
 use Rattle.ledger.specs.Entries.{processOnly, wishes}
-use Rattle.ledger.specs.State.{noTotals, noMarks, accountAt, withAccount}
+use Rattle.ledger.specs.State.{noTotals, noMarks}
 use Rattle.ledger.specs.Ranges.{accountInRange}
-use Rattle.ledger.specs.Answers.{settle}
 use Rattle.ledger.specs.declared.state.Account.{Account}
-use Rattle.ledger.specs.declared.state.Ledger.{Ledger}
 use Rattle.ledger.specs.declared.entries.Entry.{Entry}
-use Rattle.ledger.specs.declared.answers.Posted.{Posted}
+use Rattle.ledger.specs.declared.answers.Change.{Change}
 
 unfoldable pub newAccount : Terms → Dth → Quantity → Account
 newAccount t mdq opening =
@@ -36,18 +34,18 @@ newAccount t mdq opening =
     }
 
 -- the account that an entry opens
-unfoldable pub enrolled : Ledger → Entry → Account
-enrolled l e = newAccount (l .terms) (record { 0 = e .w1 }) (record { 0 = e .w2 })
+unfoldable pub enrolled : Terms → Entry → Account
+enrolled t e = newAccount t (record { 0 = e .w1 }) (record { 0 = e .w2 })
 
 -- "23 … ENROL off April 1"; "24 ENROL of an open account"; "25 stays on FBS"; "28 opening above 25 × BCQ"
-unfoldable pub enrolChecks : Ledger → Entry → List Check
-enrolChecks l e =
+unfoldable pub enrolChecks : Terms → Account → Entry → List Check
+enrolChecks t a e =
     (not (firstOfGasYear (e .date)), 23)
-    ∷ (accountAt l (e .a) .opened, 24)
+    ∷ (a .opened, 24)
     ∷ (staysOnFbs (processOnly e) (wishes e) (record { 0 = e .w1 }), 25)
-    ∷ (openingTooHigh (record { 0 = e .w2 }) (enrolled l e .capacity .bcq), 28)
-    ∷ (not (accountInRange (enrolled l e)), 29)
+    ∷ (openingTooHigh (record { 0 = e .w2 }) (enrolled t e .capacity .bcq), 28)
+    ∷ (not (accountInRange (enrolled t e)), 29)
     ∷ []
 
-unfoldable pub postEnrol : Ledger → Entry → Posted
-postEnrol l e = settle l (verdict (enrolChecks l e)) (withAccount l (e .a) (enrolled l e))
+unfoldable pub enrolment : Terms → Account → Entry → Change
+enrolment t a e = record { number = verdict (enrolChecks t a e); account = enrolled t e }

@@ -5,14 +5,12 @@ use Rattle.tariff.specs.Dates.{onMeasurementDay}
 use Rattle.tariff.specs.Steps.{measured}
 use Rattle.tariff.specs.declared.amounts.Dth.{Dth}
 use Rattle.ledger.specs.Checks.{Check, verdict}
-use Rattle.ledger.specs.State.{accountAt, withMeasure, withMarks, withAccount}
+use Rattle.ledger.specs.State.{withMeasure, withMarks}
 use Rattle.ledger.specs.Ranges.{accountInRange}
-use Rattle.ledger.specs.Answers.{settle}
 use Rattle.ledger.specs.declared.state.Account.{Account}
-use Rattle.ledger.specs.declared.state.Ledger.{Ledger}
 use Rattle.ledger.specs.declared.state.Marks.{Marks}
 use Rattle.ledger.specs.declared.entries.Entry.{Entry}
-use Rattle.ledger.specs.declared.answers.Posted.{Posted}
+use Rattle.ledger.specs.declared.answers.Change.{Change}
 
 unfoldable pub measureMark : Marks → Marks
 measureMark m =
@@ -28,17 +26,17 @@ measureMark m =
 unfoldable pub remeasured : Account → Dth → Account
 remeasured a mdq = withMarks (withMeasure a mdq (measured (a .step) mdq)) (measureMark (a .marks))
 
-unfoldable pub afterMeasure : Ledger → Entry → Account
-afterMeasure l e = remeasured (accountAt l (e .a)) (record { 0 = e .w1 })
+unfoldable pub afterMeasure : Account → Entry → Account
+afterMeasure a e = remeasured a (record { 0 = e .w1 })
 
 -- "23 … MEASURE off its day"; "26 second … MEASURE … that month"
-unfoldable pub measureChecks : Ledger → Entry → List Check
-measureChecks l e =
+unfoldable pub measureChecks : Account → Entry → List Check
+measureChecks a e =
     (not (onMeasurementDay (e .date)), 23)
-    ∷ (not (accountAt l (e .a) .opened), 24)
-    ∷ (accountAt l (e .a) .marks .measured, 26)
-    ∷ (not (accountInRange (afterMeasure l e)), 29)
+    ∷ (not (a .opened), 24)
+    ∷ (a .marks .measured, 26)
+    ∷ (not (accountInRange (afterMeasure a e)), 29)
     ∷ []
 
-unfoldable pub postMeasure : Ledger → Entry → Posted
-postMeasure l e = settle l (verdict (measureChecks l e)) (withAccount l (e .a) (afterMeasure l e))
+unfoldable pub measurement : Account → Entry → Change
+measurement a e = record { number = verdict (measureChecks a e); account = afterMeasure a e }

@@ -1,48 +1,66 @@
 -- A posting, whole: bytes of any length and content, to any ledger.
 use Prim.Native.Nat.{ℕ}
-use mathlib.Core.Bool.{cond, not, _&&_}
+use mathlib.Core.Bool.{Bool, cond, not, _&&_, _||_}
 use mathlib.Core.List.{List, [], _∷_, _++_}
-use lib.Dec.{eqb}
+use lib.Dec.{eqb, leb}
 use lib.ListN.{length}
 use Rattle.tariff.specs.Dates.{sameDate}
+use Rattle.tariff.specs.declared.dates.Date.{Date}
+use Rattle.tariff.specs.declared.terms.Terms.{Terms}
 use Rattle.ledger.specs.Checks.{Check, verdict}
 use Rattle.ledger.specs.Entries.{entryOf, entryChecks}
 use Rattle.ledger.specs.Ranges.{inRange}
-use Rattle.ledger.specs.Answers.{refused}
+use Rattle.ledger.specs.State.{accountAt, withAccount}
+use Rattle.ledger.specs.Answers.{refused, settle}
 use Rattle.ledger.specs.Terms.{postTerms}
-use Rattle.ledger.specs.Enrol.{postEnrol}
-use Rattle.ledger.specs.Deliver.{postDeliver}
+use Rattle.ledger.specs.Enrol.{enrolment}
+use Rattle.ledger.specs.Deliver.{delivery}
 use Rattle.ledger.specs.Transfer.{postTransfer}
-use Rattle.ledger.specs.Trade.{postTrade}
-use Rattle.ledger.specs.Measure.{postMeasure}
-use Rattle.ledger.specs.Usage.{postUsage}
+use Rattle.ledger.specs.Trade.{trade}
+use Rattle.ledger.specs.Measure.{measurement}
+use Rattle.ledger.specs.Usage.{usage}
 use Rattle.ledger.specs.Closing.{postClosing}
+use Rattle.ledger.specs.declared.state.Account.{Account}
 use Rattle.ledger.specs.declared.state.Ledger.{Ledger}
 use Rattle.ledger.specs.declared.entries.Entry.{Entry}
+use Rattle.ledger.specs.declared.answers.Change.{Change}
 use Rattle.ledger.specs.declared.answers.Posted.{Posted}
 
 -- "20 a number in the ledger outside its range"; "21 not begun, and not TERMS"; "22 not the ledger's date (not for the first TERMS)"
-unfoldable pub standingChecks : Ledger → Entry → List Check
-standingChecks l e =
-    (not (inRange l), 20)
-    ∷ (not (l .begun) && not (eqb (e .kind) 1), 21)
-    ∷ (l .begun && not (sameDate (e .date) (l .date)), 22)
+unfoldable pub standingChecks : Bool → Bool → Date → Entry → List Check
+standingChecks fits begun today e =
+    (not fits, 20)
+    ∷ (not begun && not (eqb (e .kind) 1), 21)
+    ∷ (begun && not (sameDate (e .date) today), 22)
     ∷ []
 
 -- the numbers that do not depend on the kind: 2 to 7, 20 to 22
 unfoldable pub admission : Ledger → Entry → ℕ
-admission l e = verdict (entryChecks e ++ standingChecks l e)
+admission l e = verdict (entryChecks e ++ standingChecks (inRange l) (l .begun) (l .date) e)
+
+-- TERMS, TRANSFER and the closings concern several accounts, the other kinds the one that the entry names.
+unfoldable pub concernsSeveral : ℕ → Bool
+concernsSeveral kind = eqb kind 1 || eqb kind 4 || leb 8 kind
+
+unfoldable pub postSeveral : Ledger → Entry → Posted
+postSeveral l e =
+    cond (eqb (e .kind) 1) (postTerms l e) (cond (eqb (e .kind) 4) (postTransfer l e) (postClosing l e))
+
+-- what a posting makes of the one account that it concerns
+unfoldable pub changeOf : Terms → Account → Entry → Change
+changeOf t a e =
+    cond (eqb (e .kind) 2) (enrolment t a e)
+    (cond (eqb (e .kind) 3) (delivery t a e)
+    (cond (eqb (e .kind) 5) (trade a e)
+    (cond (eqb (e .kind) 6) (measurement a e)
+    (usage a e))))
+
+unfoldable pub stored : Ledger → ℕ → Change → Posted
+stored l i c = settle l (c .number) (withAccount l i (c .account))
 
 unfoldable pub postKind : Ledger → Entry → Posted
 postKind l e =
-    cond (eqb (e .kind) 1) (postTerms l e)
-    (cond (eqb (e .kind) 2) (postEnrol l e)
-    (cond (eqb (e .kind) 3) (postDeliver l e)
-    (cond (eqb (e .kind) 4) (postTransfer l e)
-    (cond (eqb (e .kind) 5) (postTrade l e)
-    (cond (eqb (e .kind) 6) (postMeasure l e)
-    (cond (eqb (e .kind) 7) (postUsage l e)
-    (postClosing l e)))))))
+    cond (concernsSeveral (e .kind)) (postSeveral l e) (stored l (e .a) (changeOf (l .terms) (accountAt l (e .a)) e))
 
 unfoldable pub postEntry : Ledger → Entry → Posted
 postEntry l e = cond (eqb (admission l e) 0) (postKind l e) (refused l (admission l e))

@@ -7,13 +7,11 @@ use Rattle.tariff.specs.declared.amounts.Quantity.{Quantity}
 use Rattle.tariff.specs.declared.bill.Totals.{Totals}
 use Rattle.ledger.specs.Checks.{Check, verdict}
 use Rattle.ledger.specs.Entries.{companySells}
-use Rattle.ledger.specs.State.{accountAt, withBank, withMonth, withAccount}
+use Rattle.ledger.specs.State.{withBank, withMonth}
 use Rattle.ledger.specs.Ranges.{accountInRange}
-use Rattle.ledger.specs.Answers.{settle}
 use Rattle.ledger.specs.declared.state.Account.{Account}
-use Rattle.ledger.specs.declared.state.Ledger.{Ledger}
 use Rattle.ledger.specs.declared.entries.Entry.{Entry}
-use Rattle.ledger.specs.declared.answers.Posted.{Posted}
+use Rattle.ledger.specs.declared.answers.Change.{Change}
 
 -- a sale adds to the month's sales, a purchase to its purchases
 unfoldable pub withTrade : Bool → Totals → Quantity → Totals
@@ -31,22 +29,19 @@ unfoldable pub traded : Bool → Account → Quantity → Account
 traded sells a q =
     withMonth (withBank a (cond sells (more (a .bank) q) (less (a .bank) q))) (withTrade sells (a .month) q)
 
-unfoldable pub afterTrade : Ledger → Entry → Account
-afterTrade l e = traded (companySells e) (accountAt l (e .a)) (record { 0 = e .w1 })
+unfoldable pub afterTrade : Account → Entry → Account
+afterTrade a e = traded (companySells e) a (record { 0 = e .w1 })
 
 -- past the maximum by a sale, below the minimum by a purchase
-unfoldable pub pastLimit : Ledger → Entry → Bool
-pastLimit l e =
+unfoldable pub pastLimit : Account → Entry → Bool
+pastLimit a e =
     cond (companySells e)
-    (aboveMaximum (e .date .month) (afterTrade l e .capacity .bcq) (afterTrade l e .bank))
-    (belowMinimum (e .date .month) (afterTrade l e .capacity .bcq) (afterTrade l e .bank))
+    (aboveMaximum (e .date .month) (afterTrade a e .capacity .bcq) (afterTrade a e .bank))
+    (belowMinimum (e .date .month) (afterTrade a e .capacity .bcq) (afterTrade a e .bank))
 
-unfoldable pub tradeChecks : Ledger → Entry → List Check
-tradeChecks l e =
-    (not (accountAt l (e .a) .opened), 24)
-    ∷ (pastLimit l e, 28)
-    ∷ (not (accountInRange (afterTrade l e)), 29)
-    ∷ []
+unfoldable pub tradeChecks : Account → Entry → List Check
+tradeChecks a e =
+    (not (a .opened), 24) ∷ (pastLimit a e, 28) ∷ (not (accountInRange (afterTrade a e)), 29) ∷ []
 
-unfoldable pub postTrade : Ledger → Entry → Posted
-postTrade l e = settle l (verdict (tradeChecks l e)) (withAccount l (e .a) (afterTrade l e))
+unfoldable pub trade : Account → Entry → Change
+trade a e = record { number = verdict (tradeChecks a e); account = afterTrade a e }

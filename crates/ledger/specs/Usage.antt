@@ -4,14 +4,12 @@ use mathlib.Core.List.{List, [], _∷_}
 use Rattle.tariff.specs.declared.amounts.Mcf.{Mcf}
 use Rattle.tariff.specs.declared.bill.Totals.{Totals}
 use Rattle.ledger.specs.Checks.{Check, verdict}
-use Rattle.ledger.specs.State.{accountAt, withMonth, withMarks, withAccount}
+use Rattle.ledger.specs.State.{withMonth, withMarks}
 use Rattle.ledger.specs.Ranges.{accountInRange}
-use Rattle.ledger.specs.Answers.{settle}
 use Rattle.ledger.specs.declared.state.Account.{Account}
-use Rattle.ledger.specs.declared.state.Ledger.{Ledger}
 use Rattle.ledger.specs.declared.state.Marks.{Marks}
 use Rattle.ledger.specs.declared.entries.Entry.{Entry}
-use Rattle.ledger.specs.declared.answers.Posted.{Posted}
+use Rattle.ledger.specs.declared.answers.Change.{Change}
 
 unfoldable pub withUsage : Totals → Mcf → Totals
 withUsage m usage =
@@ -38,16 +36,13 @@ usageMark m =
 unfoldable pub metered : Account → Mcf → Account
 metered a usage = withMarks (withMonth a (withUsage (a .month) usage)) (usageMark (a .marks))
 
-unfoldable pub afterUsage : Ledger → Entry → Account
-afterUsage l e = metered (accountAt l (e .a)) (record { 0 = e .w1 })
+unfoldable pub afterUsage : Account → Entry → Account
+afterUsage a e = metered a (record { 0 = e .w1 })
 
 -- "26 second … USAGE that month"
-unfoldable pub usageChecks : Ledger → Entry → List Check
-usageChecks l e =
-    (not (accountAt l (e .a) .opened), 24)
-    ∷ (accountAt l (e .a) .marks .metered, 26)
-    ∷ (not (accountInRange (afterUsage l e)), 29)
-    ∷ []
+unfoldable pub usageChecks : Account → Entry → List Check
+usageChecks a e =
+    (not (a .opened), 24) ∷ (a .marks .metered, 26) ∷ (not (accountInRange (afterUsage a e)), 29) ∷ []
 
-unfoldable pub postUsage : Ledger → Entry → Posted
-postUsage l e = settle l (verdict (usageChecks l e)) (withAccount l (e .a) (afterUsage l e))
+unfoldable pub usage : Account → Entry → Change
+usage a e = record { number = verdict (usageChecks a e); account = afterUsage a e }

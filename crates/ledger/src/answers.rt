@@ -1,6 +1,7 @@
 // What a posting answers, and the ledger that it leaves.
 ghost use mathlib.Core.Path.{_≡_};
 ghost use Rattle.ledger.specs.Answers.{quiet, refused, settle};
+use crate::state::Account;
 use crate::state::Ledger;
 use tariff::amounts::Mills;
 use tariff::amounts::Quantity;
@@ -28,6 +29,12 @@ pub struct Answer {
 pub struct Posted {
     pub answer: Answer,
     pub ledger: Ledger,
+}
+
+// What a posting makes of the one account that it concerns: the number, and the account after it where that is 0.
+pub struct Change {
+    pub number: u64,
+    pub account: Account,
 }
 
 pub fn quiet() -> Report

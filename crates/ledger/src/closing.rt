@@ -1,6 +1,6 @@
 // CLOSE DAY and CLOSE MONTH.
 ghost use mathlib.Core.Path.{_≡_};
-ghost use mathlib.Core.Bool.{true, false, cond};
+ghost use mathlib.Core.Bool.{true, false, cond, _&&_};
 ghost use Prim.Native.Nat.{_+_, _≤_};
 ghost use lib.Dec.{eqb};
 ghost use Rattle.tariff.specs.Amounts.{size, sizeMills};
@@ -283,35 +283,36 @@ fn complete(d: Date, a: Account) -> bool
     !a.opened | (marks.delivered & measured & metered)
 }
 
-fn all_complete(l: Ledger, d: Date) -> bool
-    requires { ⌜ real d ≡ true ⌝ }
-    ensures { λ r. ⌜ r ≡ everyAccount (complete d) (l .accounts) ⌝ }
+// Whether an account's numbers stay in their ranges; one that is not open stays as it is.
+fn stays(opened: bool, day: Account, account: Account) -> bool
+    ensures { λ r. ⌜ r ≡ cond opened (accountInRange day && accountInRange account) true ⌝ }
 {
-    let mut ok = true;
-    for i in 0..16 {
-        let a = l.accounts[i];
-        let one = complete(d, a);
-        ok = ok & one;
+    if opened {
+        return account_in_range(day) & account_in_range(account);
     }
-    ok
+    true
 }
 
-// All accounts at a closing, and whether every number stays in its range.
+// All accounts at a closing: whether none lacks a posting, and whether every number stays in its range.
 struct Closings {
     ledger: Ledger,
     reports: [Report; 16],
+    complete: bool,
     fits: bool,
 }
 
 fn close_all(l: Ledger, e: Entry) -> Closings
     requires { ⌜ (admission l e ≡ 0) × (8 ≤ e .kind) ⌝ }
-    ensures { λ r. ⌜ (r .ledger ≡ closed l e .ledger) × (r .reports ≡ closed l e .answer .reports) × (r .fits ≡ everyAccount (staysInRange (l .terms) e) (l .accounts)) ⌝ }
+    ensures closed { λ r. ⌜ (r .ledger ≡ closed l e .ledger) × (r .reports ≡ closed l e .answer .reports) ⌝ }
+    ensures complete { λ r. ⌜ r .complete ≡ everyAccount (complete (e .date)) (l .accounts) ⌝ }
+    ensures fits { λ r. ⌜ r .fits ≡ everyAccount (staysInRange (l .terms) e) (l .accounts) ⌝ }
 {
     let date = e.date;
     let terms = l.terms;
     let mut next = l;
     let quiet = quiet();
     let mut reports = [quiet; 16];
+    let mut all = true;
     let mut fits = true;
     for i in 0..16 {
         let a = l.accounts[i];
@@ -319,10 +320,12 @@ fn close_all(l: Ledger, e: Entry) -> Closings
         let day = one.day;
         let account = one.account;
         let report = one.report;
-        let both = account_in_range(day) & account_in_range(account);
+        let ready = complete(date, a);
+        let fit = stays(a.opened, day, account);
         next.accounts[i] = account;
         reports[i] = report;
-        fits = fits & both;
+        all = all & ready;
+        fits = fits & fit;
     }
     let tomorrow = date.day_after();
     next.date = tomorrow;
@@ -330,6 +333,7 @@ fn close_all(l: Ledger, e: Entry) -> Closings
     Closings {
         ledger: next,
         reports,
+        complete: all,
         fits,
     }
 }
@@ -338,14 +342,13 @@ pub fn post_closing(l: Ledger, e: Entry) -> Posted
     requires { ⌜ (admission l e ≡ 0) × (8 ≤ e .kind) ⌝ }
     ensures { λ r. ⌜ r ≡ postClosing l e ⌝ }
 {
-    let date = e.date;
     if wrong_closing(e) {
         return refused(l, 23);
     }
-    if !all_complete(l, date) {
+    let all = close_all(l, e);
+    if !all.complete {
         return refused(l, 27);
     }
-    let all = close_all(l, e);
     if !all.fits {
         return refused(l, 29);
     }

@@ -3,17 +3,15 @@ ghost use mathlib.Core.Path.{_≡_};
 ghost use mathlib.Core.Bool.{true};
 ghost use Prim.Native.Nat.{_≤_};
 ghost use Rattle.tariff.specs.Amounts.{size};
+ghost use Rattle.tariff.specs.Terms.{termsInRange};
 ghost use Rattle.ledger.specs.Ranges.{accountInRange};
-ghost use Rattle.ledger.specs.Posting.{admission};
-ghost use Rattle.ledger.specs.Deliver.{delivered, postDeliver};
-use crate::answers::Posted;
-use crate::answers::settle;
+ghost use Rattle.ledger.specs.Entries.{entryNumber};
+ghost use Rattle.ledger.specs.Deliver.{delivered, delivery};
+use crate::answers::Change;
 use crate::checks::refuse;
 use crate::entries::Entry;
 use crate::ranges::account_in_range;
 use crate::state::Account;
-use crate::state::Ledger;
-use crate::state::with_account;
 use tariff::amounts::Quantity;
 use tariff::amounts::Units;
 use tariff::delivery::breaks_v1;
@@ -21,6 +19,7 @@ use tariff::delivery::breaks_v2;
 use tariff::delivery::retained;
 use tariff::delivery::share_of;
 use tariff::months::Month;
+use tariff::terms::Terms;
 
 fn delivered(m: Month, a: Account, amount: Units, back_cast: Quantity) -> Account
     requires { ⌜ (accountInRange a ≡ true) × (size amount ≤ 1000000000) ⌝ }
@@ -50,17 +49,14 @@ fn delivered(m: Month, a: Account, amount: Units, back_cast: Quantity) -> Accoun
     next
 }
 
-pub fn post_deliver(l: Ledger, e: Entry) -> Posted
-    requires { ⌜ (admission l e ≡ 0) × (e .kind ≡ 3) ⌝ }
-    ensures { λ r. ⌜ r ≡ postDeliver l e ⌝ }
+pub fn delivery(t: Terms, a: Account, e: Entry) -> Change
+    requires { ⌜ (entryNumber e ≡ 0) × (e .kind ≡ 3) × (accountInRange a ≡ true) × (termsInRange t ≡ true) ⌝ }
+    ensures { λ r. ⌜ r ≡ delivery t a e ⌝ }
 {
-    let i = e.a;
     let date = e.date;
     let month = date.month;
-    let retainage = l.terms.retainage;
-    let a = l.accounts[i];
     let back_cast = Quantity(e.w2);
-    let amount = retained(retainage, Quantity(e.w1), back_cast);
+    let amount = retained(t.retainage, Quantity(e.w1), back_cast);
     let b = delivered(month, a, amount, back_cast);
     let out = !account_in_range(b);
     let n = refuse(
@@ -68,6 +64,8 @@ pub fn post_deliver(l: Ledger, e: Entry) -> Posted
         !a.opened,
         refuse(26, a.marks.delivered, refuse(29, out, 0)),
     );
-    let next = with_account(l, i, b);
-    settle(l, n, next)
+    Change {
+        number: n,
+        account: b,
+    }
 }

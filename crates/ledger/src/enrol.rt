@@ -3,18 +3,16 @@ ghost use mathlib.Core.Path.{_≡_};
 ghost use mathlib.Core.Bool.{true};
 ghost use Prim.Native.Nat.{_≤_};
 ghost use Rattle.tariff.specs.Terms.{termsInRange};
-ghost use Rattle.ledger.specs.Posting.{admission};
-ghost use Rattle.ledger.specs.Enrol.{newAccount, postEnrol};
-use crate::answers::Posted;
-use crate::answers::settle;
+ghost use Rattle.ledger.specs.Entries.{entryNumber};
+ghost use Rattle.ledger.specs.Ranges.{accountInRange};
+ghost use Rattle.ledger.specs.Enrol.{newAccount, enrolment};
+use crate::answers::Change;
 use crate::checks::refuse;
 use crate::entries::Entry;
 use crate::ranges::account_in_range;
 use crate::state::Account;
-use crate::state::Ledger;
 use crate::state::no_marks;
 use crate::state::no_totals;
-use crate::state::with_account;
 use tariff::amounts::Dth;
 use tariff::amounts::Mills;
 use tariff::amounts::Quantity;
@@ -48,17 +46,14 @@ fn new_account(t: Terms, mdq: Dth, opening: Quantity) -> Account
     }
 }
 
-pub fn post_enrol(l: Ledger, e: Entry) -> Posted
-    requires { ⌜ (admission l e ≡ 0) × (e .kind ≡ 2) ⌝ }
-    ensures { λ r. ⌜ r ≡ postEnrol l e ⌝ }
+pub fn enrolment(t: Terms, a: Account, e: Entry) -> Change
+    requires { ⌜ (entryNumber e ≡ 0) × (e .kind ≡ 2) × (accountInRange a ≡ true) × (termsInRange t ≡ true) ⌝ }
+    ensures { λ r. ⌜ r ≡ enrolment t a e ⌝ }
 {
-    let i = e.a;
     let date = e.date;
-    let terms = l.terms;
-    let a = l.accounts[i];
     let mdq = Dth(e.w1);
     let opening = Quantity(e.w2);
-    let b = new_account(terms, mdq, opening);
+    let b = new_account(t, mdq, opening);
     let bcq = b.capacity.bcq;
     let off = !date.first_of_gas_year();
     let stays = stays_on_fbs(e.process_only(), e.wishes(), mdq);
@@ -73,6 +68,8 @@ pub fn post_enrol(l: Ledger, e: Entry) -> Posted
             refuse(25, stays, refuse(28, above, refuse(29, out, 0))),
         ),
     );
-    let next = with_account(l, i, b);
-    settle(l, n, next)
+    Change {
+        number: n,
+        account: b,
+    }
 }

@@ -35,7 +35,10 @@ use crate::entries::decode;
 use crate::panels::open_bank;
 use crate::panels::open_banks;
 use crate::postings::admission;
-use crate::postings::post_kind;
+use crate::postings::change;
+use crate::postings::concerns_several;
+use crate::postings::post_several;
+use crate::ranges::account_in_range;
 use crate::ranges::in_range;
 use crate::state::nobody;
 use tariff::amounts::Dth;
@@ -83,18 +86,40 @@ pub fn entry_number(entry: &[u8]) -> u64
 }
 
 // Any bytes, to any ledger.
-pub fn post(ledger: Ledger, entry: &[u8]) -> Posted
+// The ledger is large, and a function that it is passed to copies it. So what every posting asks of it is asked here, account by account, and most kinds see their own account only.
+pub fn post(mut ledger: Ledger, entry: &[u8]) -> Posted
     ensures { λ r. ⌜ r ≡ posted ledger (now (entry .entry)) ⌝ }
 {
     if entry.len() != 32 {
         return refused(ledger, 1);
     }
     let e = decode(entry);
-    let n = admission(ledger, e);
+    let today = ledger.date;
+    let terms = ledger.terms;
+    let mut fits = !ledger.begun | (today.real() & terms.in_range());
+    for k in 0..16 {
+        let one = ledger.accounts[k];
+        let fit = account_in_range(one);
+        fits = fits & fit;
+    }
+    let n = admission(fits, ledger.begun, today, e);
     if n != 0 {
         return refused(ledger, n);
     }
-    post_kind(ledger, e)
+    if concerns_several(e.kind) {
+        return post_several(ledger, e);
+    }
+    let i = e.a;
+    let a = ledger.accounts[i];
+    let c = change(terms, a, e);
+    let m = c.number;
+    if m != 0 {
+        return refused(ledger, m);
+    }
+    let b = c.account;
+    ledger.accounts[i] = b;
+    ledger.touched = true;
+    refused(ledger, 0)
 }
 
 // For a caller who keeps one ledger in its own storage: what `post` returns takes the ledger's place there, so that no old copy is left to post to.

@@ -3,16 +3,13 @@ ghost use mathlib.Core.Path.{_≡_};
 ghost use mathlib.Core.Bool.{true};
 ghost use Prim.Native.Nat.{_≤_};
 ghost use Rattle.ledger.specs.Ranges.{accountInRange};
-ghost use Rattle.ledger.specs.Posting.{admission};
-ghost use Rattle.ledger.specs.Measure.{remeasured, postMeasure};
-use crate::answers::Posted;
-use crate::answers::settle;
+ghost use Rattle.ledger.specs.Entries.{entryNumber};
+ghost use Rattle.ledger.specs.Measure.{remeasured, measurement};
+use crate::answers::Change;
 use crate::checks::refuse;
 use crate::entries::Entry;
 use crate::ranges::account_in_range;
 use crate::state::Account;
-use crate::state::Ledger;
-use crate::state::with_account;
 use tariff::amounts::Dth;
 
 fn remeasured(a: Account, mdq: Dth) -> Account
@@ -30,13 +27,11 @@ fn remeasured(a: Account, mdq: Dth) -> Account
     next
 }
 
-pub fn post_measure(l: Ledger, e: Entry) -> Posted
-    requires { ⌜ (admission l e ≡ 0) × (e .kind ≡ 6) ⌝ }
-    ensures { λ r. ⌜ r ≡ postMeasure l e ⌝ }
+pub fn measurement(a: Account, e: Entry) -> Change
+    requires { ⌜ (entryNumber e ≡ 0) × (e .kind ≡ 6) × (accountInRange a ≡ true) ⌝ }
+    ensures { λ r. ⌜ r ≡ measurement a e ⌝ }
 {
-    let i = e.a;
     let date = e.date;
-    let a = l.accounts[i];
     let off = !date.on_measurement_day();
     let b = remeasured(a, Dth(e.w1));
     let out = !account_in_range(b);
@@ -49,6 +44,8 @@ pub fn post_measure(l: Ledger, e: Entry) -> Posted
             refuse(26, a.marks.measured, refuse(29, out, 0)),
         ),
     );
-    let next = with_account(l, i, b);
-    settle(l, n, next)
+    Change {
+        number: n,
+        account: b,
+    }
 }

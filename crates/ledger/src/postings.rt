@@ -1,51 +1,73 @@
-// A posting, whole.
+// Which rules a posting meets, by its kind.
 ghost use mathlib.Core.Path.{_≡_};
-ghost use Rattle.ledger.specs.Posting.{admission, postKind};
+ghost use mathlib.Core.Bool.{true, false};
+ghost use mathlib.Core.List.{_++_};
+ghost use Rattle.tariff.specs.Terms.{termsInRange};
+ghost use Rattle.ledger.specs.Checks.{verdict};
+ghost use Rattle.ledger.specs.Entries.{entryChecks, entryNumber};
+ghost use Rattle.ledger.specs.Ranges.{accountInRange};
+ghost use Rattle.ledger.specs.Posting.{standingChecks, admission, concernsSeveral, postSeveral, changeOf};
+use crate::answers::Change;
 use crate::answers::Posted;
-use crate::answers::refused;
 use crate::checks::refuse;
 use crate::closing::post_closing;
-use crate::deliver::post_deliver;
-use crate::enrol::post_enrol;
+use crate::deliver::delivery;
+use crate::enrol::enrolment;
 use crate::entries::Entry;
-use crate::entries::decode;
-use crate::measure::post_measure;
-use crate::ranges::in_range;
+use crate::measure::measurement;
+use crate::state::Account;
 use crate::state::Ledger;
 use crate::terms::post_terms;
-use crate::trade::post_trade;
+use crate::trade::trade;
 use crate::transfer::post_transfer;
-use crate::usage::post_usage;
+use crate::usage::usage;
+use tariff::dates::Date;
+use tariff::terms::Terms;
 
-// The numbers that do not depend on the kind.
-pub fn admission(l: Ledger, e: Entry) -> u64
-    ensures { λ r. ⌜ r ≡ admission l e ⌝ }
+// The numbers that do not depend on the kind, for a ledger by what they ask of it: whether its numbers are in their ranges, whether it has begun, and its date.
+pub fn admission(fits: bool, begun: bool, today: Date, e: Entry) -> u64
+    ensures { λ r. ⌜ r ≡ verdict (entryChecks e ++ standingChecks fits begun today e) ⌝ }
 {
     let date = e.date;
-    let today = l.date;
     let n = e.number();
     if n != 0 {
         return n;
     }
-    let out = !in_range(l);
-    let not_begun = !l.begun & !(e.kind == 1);
-    let other_day = l.begun & !date.same(today);
-    refuse(20, out, refuse(21, not_begun, refuse(22, other_day, 0)))
+    let not_begun = !begun & !(e.kind == 1);
+    let other_day = begun & !date.same(today);
+    refuse(20, !fits, refuse(21, not_begun, refuse(22, other_day, 0)))
 }
 
-pub fn post_kind(l: Ledger, e: Entry) -> Posted
-    requires { ⌜ admission l e ≡ 0 ⌝ }
-    ensures { λ r. ⌜ r ≡ postKind l e ⌝ }
+// TERMS, TRANSFER and the closings.
+pub fn concerns_several(kind: u64) -> bool
+    ensures { λ r. ⌜ r ≡ concernsSeveral kind ⌝ }
+{
+    (kind == 1) | (kind == 4) | (8 <= kind)
+}
+
+pub fn post_several(l: Ledger, e: Entry) -> Posted
+    requires { ⌜ (admission l e ≡ 0) × (concernsSeveral (e .kind) ≡ true) ⌝ }
+    ensures { λ r. ⌜ r ≡ postSeveral l e ⌝ }
 {
     let kind = e.kind;
     match kind {
         1 => post_terms(l, e),
-        2 => post_enrol(l, e),
-        3 => post_deliver(l, e),
         4 => post_transfer(l, e),
-        5 => post_trade(l, e),
-        6 => post_measure(l, e),
-        7 => post_usage(l, e),
         _ => post_closing(l, e),
+    }
+}
+
+// The other kinds, by the account that the entry names.
+pub fn change(t: Terms, a: Account, e: Entry) -> Change
+    requires { ⌜ (entryNumber e ≡ 0) × (concernsSeveral (e .kind) ≡ false) × (accountInRange a ≡ true) × (termsInRange t ≡ true) ⌝ }
+    ensures { λ r. ⌜ r ≡ changeOf t a e ⌝ }
+{
+    let kind = e.kind;
+    match kind {
+        2 => enrolment(t, a, e),
+        3 => delivery(t, a, e),
+        5 => trade(a, e),
+        6 => measurement(a, e),
+        _ => usage(a, e),
     }
 }

@@ -4,16 +4,13 @@ ghost use mathlib.Core.Bool.{true, cond};
 ghost use Prim.Native.Nat.{_≤_};
 ghost use Rattle.tariff.specs.Limits.{aboveMaximum, belowMinimum};
 ghost use Rattle.ledger.specs.Ranges.{accountInRange};
-ghost use Rattle.ledger.specs.Posting.{admission};
-ghost use Rattle.ledger.specs.Trade.{traded, postTrade};
-use crate::answers::Posted;
-use crate::answers::settle;
+ghost use Rattle.ledger.specs.Entries.{entryNumber};
+ghost use Rattle.ledger.specs.Trade.{traded, trade};
+use crate::answers::Change;
 use crate::checks::refuse;
 use crate::entries::Entry;
 use crate::ranges::account_in_range;
 use crate::state::Account;
-use crate::state::Ledger;
-use crate::state::with_account;
 use tariff::amounts::Dth;
 use tariff::amounts::Quantity;
 use tariff::amounts::Units;
@@ -54,21 +51,21 @@ fn past_limit(sells: bool, m: Month, bcq: Dth, bank: Units) -> bool
     below_minimum(m, bcq, bank)
 }
 
-pub fn post_trade(l: Ledger, e: Entry) -> Posted
-    requires { ⌜ (admission l e ≡ 0) × (e .kind ≡ 5) ⌝ }
-    ensures { λ r. ⌜ r ≡ postTrade l e ⌝ }
+pub fn trade(a: Account, e: Entry) -> Change
+    requires { ⌜ (entryNumber e ≡ 0) × (e .kind ≡ 5) × (accountInRange a ≡ true) ⌝ }
+    ensures { λ r. ⌜ r ≡ trade a e ⌝ }
 {
-    let i = e.a;
     let date = e.date;
     let month = date.month;
     let sells = e.company_sells();
-    let a = l.accounts[i];
     let b = traded(sells, a, Quantity(e.w1));
     let bcq = b.capacity.bcq;
     let bank = b.bank;
     let past = past_limit(sells, month, bcq, bank);
     let out = !account_in_range(b);
     let n = refuse(24, !a.opened, refuse(28, past, refuse(29, out, 0)));
-    let next = with_account(l, i, b);
-    settle(l, n, next)
+    Change {
+        number: n,
+        account: b,
+    }
 }

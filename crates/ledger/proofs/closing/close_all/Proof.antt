@@ -1,21 +1,23 @@
 use borrow.Author.Needs.{needs}
 use native.Mathlib.Omega.{arith}
 use mathlib.Core.Path.{_∙_, _≡_, refl, sym}
-use mathlib.Core.Bool.{_&&_, true}
-use Prim.Native.Nat.{_-_, _≤_}
-use lib.ListN.{drop, length, replicate}
+use mathlib.Core.Bool.{Bool, _&&_, cond, false, true}
+use Prim.Native.Nat.{ℕ, _-_, _<_, _≤_}
+use lib.ListN.{drop, getD, length, replicate}
 use Rattle.ledger.proofs.Admitted.{is-begun, is-ranged, is-real, prices-fit}
 use Rattle.ledger.proofs.Bounded.{account-ranged, begun-ranged}
 use Rattle.ledger.proofs.Lists.{every-end, every-next, filled, filled-end, filled-next, length-mapped}
 use Rattle.ledger.specs.Answers.{quiet}
-use Rattle.ledger.specs.Closing.{accountClosed, closed, reportOf, staysInRange}
-use Rattle.ledger.specs.Ranges.{everyAccount}
+use Rattle.ledger.specs.Closing.{accountClosed, closed, closedAccount, complete, notOpen, reportOf, staysInRange}
+use Rattle.ledger.specs.Ranges.{accountInRange, everyAccount}
 use Rattle.ledger.specs.State.{accountAt, noMarks, noTotals, nobody}
-use Rattle.tariff.proofs.Signed.{fits}
 use Rattle.tariff.specs.Terms.{termsInRange}
+use Rattle.tariff.specs.declared.terms.Terms.{Terms}
 use mathlib.Core.List.{List}
 use Rattle.ledger.specs.declared.state.Ledger.{Ledger}
 use Rattle.ledger.specs.declared.state.Account.{Account}
+use Rattle.ledger.specs.declared.entries.Entry.{Entry}
+use Rattle.ledger.specs.declared.closing.Closed.{Closed}
 use Rattle.ledger.proofs.closing.close_all.Statement.{statement}
 use Rattle.ledger.proofs.closing.close_all.Tie as tie
 
@@ -24,14 +26,26 @@ abbrev withAccounts : Ledger → List Account → Ledger
 withAccounts l xs = record { begun = l .begun; touched = l .touched; date = l .date; terms = l .terms; accounts = xs }
 
 abbrev Inv-loop : tie.InvT-loop
-Inv-loop e l date terms next₀ reports₀ fits₀ i₀ next reports fits i =
+Inv-loop e l date terms next₀ reports₀ all₀ fits₀ i₀ next reports all fits i =
     (i ≤ 16)
     × (next ≡ withAccounts l (filled (accountClosed (l .terms) e) (l .accounts) (l .accounts) i))
     × (reports ≡ filled (reportOf (l .terms) e) (l .accounts) (replicate 16 quiet) i)
+    × (all && everyAccount (complete (e .date)) (drop i (l .accounts)) ≡ everyAccount (complete (e .date)) (l .accounts))
     × (fits && everyAccount (staysInRange (l .terms) e) (drop i (l .accounts)) ≡ everyAccount (staysInRange (l .terms) e) (l .accounts))
 
 abbrev μ-loop : tie.MeasureT-loop
-μ-loop e l date terms next₀ reports₀ fits₀ i₀ next reports fits i = 16 - i
+μ-loop e l date terms next₀ reports₀ all₀ fits₀ i₀ next reports all fits i = 16 - i
+
+-- an account that is not open stays as it is, and that is in its ranges
+shut-stays : (o : Bool) (k n : Closed) → accountInRange (n .day) && accountInRange (n .account) ≡ true
+    → cond o (accountInRange (cond o k n .day) && accountInRange (cond o k n .account)) true ≡ (accountInRange (cond o k n .day) && accountInRange (cond o k n .account))
+shut-stays true k n h = refl
+shut-stays false k n h = sym h
+
+stays-as : (t : Terms) (e : Entry) (a : Account) → accountInRange a ≡ true
+    → cond (a .opened) (accountInRange (closedAccount t e a .day) && accountInRange (closedAccount t e a .account)) true ≡ staysInRange t e a
+unfolding staysInRange closedAccount notOpen
+stays-as t e a r = shut-stays (a .opened) _ (notOpen a) (rw r refl)
 
 sixteen : (c : tie.Start Inv-loop μ-loop) → length (c .args .t1 .accounts) ≡ 16
 sixteen c = search (needs, length-mapped)
@@ -45,7 +59,7 @@ quiet-requires : tie.Need-quiet-requires Inv-loop μ-loop
 quiet-requires c κs = search needs
 
 loop-holds : tie.Need-loop-holds Inv-loop μ-loop
-loop-holds c = (search needs, refl, rw (c .quiet .ensures), refl)
+loop-holds c = (search needs, refl, rw (c .quiet .ensures), refl, refl)
 
 mul-a : tie.Need-mul-a Inv-loop μ-loop
 mul-a c = search needs
@@ -53,22 +67,24 @@ mul-a c = search needs
 element-copy-out-a : tie.Need-element-copy-out-a Inv-loop μ-loop
 element-copy-out-a c = search needs
 
+ranged : (r : tie.Start Inv-loop μ-loop) (i : ℕ) → i < 16 → accountInRange (accountAt (r .args .t1) i) ≡ true
+ranged r i h = account-ranged (r .args .t1) i (sixteen r) h (is-ranged (r .args .t1) (r .args .e) (r .pre .0))
+
 close-account-requires : tie.Need-close-account-requires Inv-loop μ-loop
 unfolding nobody noTotals noMarks accountAt
 close-account-requires c κs =
-    let s = c .before .before in
-    let r = s .before .before .before .before in (
+    let r = c .before .before .before .before .before .before in (
       is-real (r .args .t1) (r .args .e) (r .pre .0),
-      account-ranged (r .args .t1) (s .loop .i) (sixteen r) (omega arith) (is-ranged (r .args .t1) (r .args .e) (r .pre .0)),
+      ranged r (c .before .before .loop .i) (omega arith),
       in-force r,
       prices-fit (r .args .t1) (r .args .e) (r .pre .0),
     )
 
-account-in-range-requires : tie.Need-account-in-range-requires Inv-loop μ-loop
-account-in-range-requires c κs = search needs
+complete-requires : tie.Need-complete-requires Inv-loop μ-loop
+complete-requires c κs = let r = c .before .before .before .before .before .before .before .before .before .before in is-real (r .args .t1) (r .args .e) (r .pre .0)
 
-account-in-range-requires-2 : tie.Need-account-in-range-requires-2 Inv-loop μ-loop
-account-in-range-requires-2 c κs = search needs
+stays-requires : tie.Need-stays-requires Inv-loop μ-loop
+stays-requires c κs = search needs
 
 mul-account : tie.Need-mul-account Inv-loop μ-loop
 mul-account c = search needs
@@ -89,19 +105,21 @@ loop-less : tie.Need-loop-less Inv-loop μ-loop
 loop-less c = search needs
 
 loop-again : tie.Need-loop-again Inv-loop μ-loop
-unfolding nobody noTotals noMarks accountClosed reportOf staysInRange
+unfolding nobody noTotals noMarks accountAt accountClosed reportOf
 loop-again c =
-    let s = c .before .before .before .before .before .before .before .before in
-    let r = s .before .before .before .before in
+    let v = c .before .before .before .before .before .before .before .before .loop in
+    let r = c .before .before .before .before .before .before .before .before .before .before .before .before in
     let l = r .args .t1 in
     let n : length (l .accounts) ≡ 16 = sixteen r in
     let e = c .before .before .before .before .before .close-account .ensures in
     let t = c .before .before .before .before .before .before .before .loop-test .taken in (
       omega (arith, t),
-      rw (s .loop .inv .1, e, filled-next (accountClosed (l .terms) (r .args .e)) (l .accounts) (l .accounts) (s .loop .i) nobody (omega arith) (omega (arith, n, t))),
-      rw (s .loop .inv .2, e, filled-next (reportOf (l .terms) (r .args .e)) (l .accounts) (replicate 16 quiet) (s .loop .i) nobody (omega (arith, n)) (omega (arith, n, t))),
-      rw (c .account-in-range2 .ensures, c .before .account-in-range .ensures, e)
-          (sym (every-next (staysInRange (l .terms) (r .args .e)) (l .accounts) (s .loop .i) nobody (s .loop .fits) (omega (arith, n, t))) ∙ s .loop .inv .3),
+      rw (v .inv .1, e, filled-next (accountClosed (l .terms) (r .args .e)) (l .accounts) (l .accounts) (v .i) nobody (omega arith) (omega (arith, n, t))),
+      rw (v .inv .2, e, filled-next (reportOf (l .terms) (r .args .e)) (l .accounts) (replicate 16 quiet) (v .i) nobody (omega (arith, n)) (omega (arith, n, t))),
+      rw (c .before .complete .ensures)
+          (sym (every-next (complete (r .args .e .date)) (l .accounts) (v .i) nobody (v .all) (omega (arith, n, t))) ∙ v .inv .3),
+      rw (c .stays .ensures, e, stays-as (l .terms) (r .args .e) (getD (l .accounts) (v .i) nobody) (ranged r (v .i) (omega (arith, t))))
+          (sym (every-next (staysInRange (l .terms) (r .args .e)) (l .accounts) (v .i) nobody (v .fits) (omega (arith, n, t))) ∙ v .inv .4),
     )
 
 day-after-requires : tie.Need-day-after-requires Inv-loop μ-loop
@@ -112,13 +130,18 @@ day-after-requires c κs =
 returns : tie.Need-returns Inv-loop μ-loop
 unfolding closed
 returns c =
-    let s = c .before .before in
-    let r = s .before .before .before .before in
+    let v = c .before .before .loop in
+    let r = c .before .before .before .before .before .before in
     let l = r .args .t1 in
     let n : length (l .accounts) ≡ 16 = sixteen r in (
-      rw (s .loop .inv .1, c .day-after .ensures, filled-end (accountClosed (l .terms) (r .args .e)) (l .accounts) (l .accounts) (s .loop .i) (omega (arith, n)) (omega (arith, n))),
-      s .loop .inv .2 ∙ filled-end (reportOf (l .terms) (r .args .e)) (l .accounts) (replicate 16 quiet) (s .loop .i) (omega (arith, n)) (omega arith),
-      sym (every-end (staysInRange (l .terms) (r .args .e)) (l .accounts) (s .loop .i) (s .loop .fits) (omega (arith, n))) ∙ s .loop .inv .3,
+      (
+        rw (v .inv .1, c .day-after .ensures, filled-end (accountClosed (l .terms) (r .args .e)) (l .accounts) (l .accounts) (v .i) (omega (arith, n)) (omega (arith, n))),
+        v .inv .2 ∙ filled-end (reportOf (l .terms) (r .args .e)) (l .accounts) (replicate 16 quiet) (v .i) (omega (arith, n)) (omega arith),
+      ),
+      (
+        sym (every-end (complete (r .args .e .date)) (l .accounts) (v .i) (v .all) (omega (arith, n))) ∙ v .inv .3,
+        sym (every-end (staysInRange (l .terms) (r .args .e)) (l .accounts) (v .i) (v .fits) (omega (arith, n))) ∙ v .inv .4,
+      ),
     )
 
 pub close-all-spec : {M : Type 1} → statement M
@@ -132,8 +155,8 @@ close-all-spec =
     mul-a
     element-copy-out-a
     close-account-requires
-    account-in-range-requires
-    account-in-range-requires-2
+    complete-requires
+    stays-requires
     mul-account
     element-set-from-account
     mul-reports

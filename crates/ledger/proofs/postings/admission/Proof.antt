@@ -11,12 +11,9 @@ number-requires c κs = search needs
 
 returns : tie.Need-returns
 returns c =
-    let s = c .before .before .before .before in
+    let s = c .before .before .before in
     rw (c .before .number .ensures)
-    (sym (admission-own (s .args .l) (s .args .e) (λ z. c .if1 .taken (c .before .number .ensures ∙ z))))
-
-in-range-requires : tie.Need-in-range-requires
-in-range-requires c κs = search needs
+    (sym (admission-own (s .args .fits) (s .args .begun) (s .args .today) (s .args .e) (λ z. c .if1 .taken (c .before .number .ensures ∙ z))))
 
 same-requires : tie.Need-same-requires
 same-requires c κs = search needs
@@ -33,15 +30,9 @@ refuse-requires-3 c κs = search needs
 returns-2 : tie.Need-returns-2
 unfolding standingChecks verdict
 returns-2 c =
-    let s = c .before .before .before .before .before .before .before .before .before .before .before .before in
-    rw (
-      c .refuse3 .ensures,
-      c .before .refuse2 .ensures,
-      c .before .before .refuse .ensures,
-      c .before .before .before .before .same .ensures,
-      c .before .before .before .before .before .before .before .in-range .ensures,
-    )
-    (sym (admission-standing (s .args .l) (s .args .e) (sym (c .before .before .before .before .before .before .before .before .before .number .ensures) ∙ c .before .before .before .before .before .before .before .before .if1 .left)))
+    let s = c .before .before .before .before .before .before .before .before in
+    rw (c .refuse3 .ensures, c .before .refuse2 .ensures, c .before .before .refuse .ensures, c .before .before .before .same .ensures)
+    (sym (admission-standing (s .args .fits) (s .args .begun) (s .args .today) (s .args .e) (sym (c .before .before .before .before .before .before .number .ensures) ∙ c .before .before .before .before .before .if1 .left)))
 
 pub admission-spec : {M : Type 1} → statement M
 admission-spec =
@@ -49,7 +40,6 @@ admission-spec =
     (tie.spec
     number-requires
     returns
-    in-range-requires
     same-requires
     refuse-requires
     refuse-requires-2

@@ -1,0 +1,61 @@
+use borrow.Author.Needs.{needs}
+use borrow.Author.Tests.{ne-eqb}
+use mathlib.Core.Path.{_∙_, sym}
+use Rattle.ledger.proofs.KindCases.{change-at}
+use Rattle.ledger.specs.Posting.{changeOf}
+use Rattle.ledger.proofs.postings.change.Statement.{statement}
+use Rattle.ledger.proofs.postings.change.Tie as tie
+
+enrolment-requires : tie.Need-enrolment-requires
+enrolment-requires c κs = search needs
+
+delivery-requires : tie.Need-delivery-requires
+delivery-requires c κs = search needs
+
+trade-requires : tie.Need-trade-requires
+trade-requires c κs = search needs
+
+measurement-requires : tie.Need-measurement-requires
+measurement-requires c κs = search needs
+
+usage-requires : tie.Need-usage-requires
+usage-requires c κs = search needs
+
+returns : tie.Need-returns
+returns c = let s = c .before .before in c .enrolment .ensures ∙ sym (change-at (s .args .t) (s .args .a) (s .args .e) 2 (c .before .match .keys1))
+
+returns-2 : tie.Need-returns-2
+returns-2 c = let s = c .before .before in c .delivery .ensures ∙ sym (change-at (s .args .t) (s .args .a) (s .args .e) 3 (c .before .match .keys2))
+
+returns-3 : tie.Need-returns-3
+returns-3 c = let s = c .before .before in c .trade .ensures ∙ sym (change-at (s .args .t) (s .args .a) (s .args .e) 5 (c .before .match .keys3))
+
+returns-4 : tie.Need-returns-4
+returns-4 c = let s = c .before .before in c .measurement .ensures ∙ sym (change-at (s .args .t) (s .args .a) (s .args .e) 6 (c .before .match .keys4))
+
+returns-5 : tie.Need-returns-5
+unfolding changeOf
+returns-5 c =
+    let s = c .before .before in
+    rw (
+      c .usage .ensures,
+      ne-eqb (s .args .e .kind) 2 (c .before .match .rest .0 .0 .0 .1),
+      ne-eqb (s .args .e .kind) 3 (c .before .match .rest .0 .0 .1),
+      ne-eqb (s .args .e .kind) 5 (c .before .match .rest .0 .1),
+      ne-eqb (s .args .e .kind) 6 (c .before .match .rest .1),
+    )
+
+pub change-spec : {M : Type 1} → statement M
+change-spec =
+    tie.close
+    (tie.spec
+    enrolment-requires
+    delivery-requires
+    trade-requires
+    measurement-requires
+    usage-requires
+    returns
+    returns-2
+    returns-3
+    returns-4
+    returns-5)
