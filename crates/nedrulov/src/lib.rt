@@ -15,6 +15,7 @@ ghost use Rattle.archive.specs.Reading.{checked, placeOf};
 ghost use Rattle.archive.specs.Replay.{figuresOf};
 ghost use Rattle.archive.specs.YearSheet.{sheetOf};
 ghost use Rattle.nedrulov.specs.Cells.{cellsOf, cellsAfter};
+ghost use Rattle.nedrulov.specs.Limits.{bandOf, deliveryAmount};
 use archive::Checked;
 use archive::Figures;
 use archive::Place;
@@ -23,7 +24,18 @@ use ledger::Answer;
 use ledger::Ledger;
 use ledger::Panel;
 use ledger::Posted;
+use tariff::amounts::Dth;
+use tariff::amounts::Quantity;
 use tariff::amounts::Units;
+use tariff::delivery::retained;
+use tariff::months::Month;
+
+// The least and the largest bank of a month, in units.
+#[repr(C)]
+pub struct Band {
+    pub minimum: u64,
+    pub maximum: u64,
+}
 
 #[no_mangle]
 pub extern "C" fn nedrulov_fresh() -> Ledger
@@ -116,5 +128,37 @@ fn put_cells(sheet: [[Units; 12]; 16], cells: &mut [i64])
         let bank = sheet[i][m];
         let units = bank.0;
         cells[k] = units;
+    }
+}
+
+// The amount that a DELIVER adds to its bank under the retainage R; 0 where one of the three is out of its range.
+#[no_mangle]
+pub extern "C" fn nedrulov_amount(retainage: u64, delivered: u64, back_cast: u64) -> i64
+    ensures { λ r. ⌜ r ≡ deliveryAmount retainage delivered «back_cast» ⌝ }
+{
+    if (retainage <= 9999) & (delivered <= 1000000000) & (back_cast <= 1000000000) {
+        let amount = retained(retainage, Quantity(delivered), Quantity(back_cast));
+        return amount.0;
+    }
+    0
+}
+
+// A month's minimum and maximum of a BCQ; 0 and 0 where there is no such month or the BCQ is out of its range.
+#[no_mangle]
+pub extern "C" fn nedrulov_band(month: u64, bcq: u64) -> Band
+    ensures { λ r. ⌜ r ≡ bandOf month bcq ⌝ }
+{
+    if (1 <= month) & (month <= 12) & (bcq <= 30000000) {
+        let m = Month(month);
+        let minimum = Quantity::percent(m.minimum(), Dth(bcq));
+        let maximum = Quantity::percent(m.maximum(), Dth(bcq));
+        return Band {
+            minimum: minimum.0,
+            maximum: maximum.0,
+        };
+    }
+    Band {
+        minimum: 0,
+        maximum: 0,
     }
 }
