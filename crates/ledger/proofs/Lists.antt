@@ -18,6 +18,10 @@ module _ (p : Account → Bool) where
   unfolding everyAccount
   every-next xs i d ok h = rw (add-one, drop-cons xs i d) (sym (and-assoc ok (p (getD xs i d)) (everyAccount p (drop (suc i) xs))))
 
+  -- an account that passes changes nothing
+  pub every-pass : (xs : List Account) (i : ℕ) (d : Account) (ok : Bool) → i < length xs → p (getD xs i d) ≡ true → ok && everyAccount p (drop i xs) ≡ ok && everyAccount p (drop (i + 1) xs)
+  every-pass xs i d ok h t = every-next xs i d ok h ∙ rw (t, and-true)
+
   pub every-end : (xs : List Account) (i : ℕ) (ok : Bool) → length xs ≤ i → ok && everyAccount p (drop i xs) ≡ ok
   unfolding everyAccount
   every-end xs i ok h = rw (drop-of-length-le xs h) (and-true ok)
@@ -52,6 +56,16 @@ module _ {A B : Type 0} (f : A → B) where
 
   pub filled-next : (xs : List A) (ys : List B) (i : ℕ) (d : A) → length ys ≡ length xs → i < length xs → set (filled xs ys i) i (f (getD xs i d)) ≡ filled xs ys (i + 1)
   filled-next xs ys i d e h = rw add-one (filled-suc xs ys i d e h)
+
+  kept-suc : (xs : List A) (ys : List B) (i : ℕ) (d : A) (e : B) → length ys ≡ length xs → i < length xs → f (getD xs i d) ≡ getD ys i e → filled xs ys i ≡ filled xs ys (suc i)
+  kept-suc [] ys i d e n h q = absurd (omega arith)
+  kept-suc (x ∷ xs) [] i d e n h q = absurd (omega arith)
+  kept-suc (x ∷ xs) (y ∷ ys) zero d e n h q = ap (λ (z : B). z ∷ ys) (sym q)
+  kept-suc (x ∷ xs) (y ∷ ys) (suc i) d e n h q = ap (λ t. f x ∷ t) (kept-suc xs ys i d e (omega arith) (omega arith) q)
+
+  -- an element that is there already
+  pub filled-kept : (xs : List A) (ys : List B) (i : ℕ) (d : A) (e : B) → length ys ≡ length xs → i < length xs → f (getD xs i d) ≡ getD ys i e → filled xs ys i ≡ filled xs ys (i + 1)
+  filled-kept xs ys i d e n h q = rw add-one (kept-suc xs ys i d e n h q)
 
   pub filled-end : (xs : List A) (ys : List B) (i : ℕ) → length xs ≤ i → length ys ≤ i → filled xs ys i ≡ map f xs
   filled-end xs ys i h k = rw (take-all i xs h, drop-of-length-le ys k) (append-nil (map f xs))

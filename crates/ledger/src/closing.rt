@@ -1,6 +1,6 @@
 // CLOSE DAY and CLOSE MONTH.
 ghost use mathlib.Core.Path.{_≡_};
-ghost use mathlib.Core.Bool.{true, false, cond, _&&_};
+ghost use mathlib.Core.Bool.{true, false, cond};
 ghost use Prim.Native.Nat.{_+_, _≤_};
 ghost use lib.Dec.{eqb};
 ghost use Rattle.tariff.specs.Amounts.{size, sizeMills};
@@ -245,18 +245,11 @@ fn close_month(d: Date, t: Terms, p: Prices, a: Account) -> Closed
 
 fn close_account(t: Terms, e: Entry, a: Account) -> Closed
     requires { ⌜ (real (e .date) ≡ true) × (accountInRange a ≡ true) × (termsInRange t ≡ true) × (e .kind ≡ 9 → pricesInRange (pricesOf e) ≡ true) ⌝ }
+    requires opened { ⌜ a .opened ≡ true ⌝ }
     ensures { λ r. ⌜ r ≡ closedAccount t e a ⌝ }
 {
     let date = e.date;
     let kind = e.kind;
-    if !a.opened {
-        let report = quiet();
-        return Closed {
-            day: a,
-            account: a,
-            report,
-        };
-    }
     if kind == 9 {
         return close_month(date, t, e.prices(), a);
     }
@@ -283,16 +276,6 @@ fn complete(d: Date, a: Account) -> bool
     !a.opened | (marks.delivered & measured & metered)
 }
 
-// Whether an account's numbers stay in their ranges; one that is not open stays as it is.
-fn stays(opened: bool, day: Account, account: Account) -> bool
-    ensures { λ r. ⌜ r ≡ cond opened (accountInRange day && accountInRange account) true ⌝ }
-{
-    if opened {
-        return account_in_range(day) & account_in_range(account);
-    }
-    true
-}
-
 // All accounts at a closing: whether none lacks a posting, and whether every number stays in its range.
 struct Closings {
     ledger: Ledger,
@@ -301,6 +284,7 @@ struct Closings {
     fits: bool,
 }
 
+// An account that is not open stays as it is, and has nothing to report.
 fn close_all(l: Ledger, e: Entry) -> Closings
     requires { ⌜ (admission l e ≡ 0) × (8 ≤ e .kind) ⌝ }
     ensures closed { λ r. ⌜ (r .ledger ≡ closed l e .ledger) × (r .reports ≡ closed l e .answer .reports) ⌝ }
@@ -316,16 +300,18 @@ fn close_all(l: Ledger, e: Entry) -> Closings
     let mut fits = true;
     for i in 0..16 {
         let a = l.accounts[i];
-        let one = close_account(terms, e, a);
-        let day = one.day;
-        let account = one.account;
-        let report = one.report;
-        let ready = complete(date, a);
-        let fit = stays(a.opened, day, account);
-        next.accounts[i] = account;
-        reports[i] = report;
-        all = all & ready;
-        fits = fits & fit;
+        if a.opened {
+            let one = close_account(terms, e, a);
+            let day = one.day;
+            let account = one.account;
+            let report = one.report;
+            let ready = complete(date, a);
+            let fit = account_in_range(day) & account_in_range(account);
+            next.accounts[i] = account;
+            reports[i] = report;
+            all = all & ready;
+            fits = fits & fit;
+        }
     }
     let tomorrow = date.day_after();
     next.date = tomorrow;

@@ -1,12 +1,13 @@
 use borrow.Author.Needs.{needs}
 use native.Mathlib.Omega.{arith}
-use mathlib.Core.Path.{_∙_, _≡_, refl, sym}
-use mathlib.Core.Bool.{Bool, _&&_, cond, false, true}
+use mathlib.Core.Path.{_∙_, _≡_, ap, refl, sym}
+use mathlib.Core.Logic.{⊎-elim}
+use mathlib.Core.Bool.{_&&_, false, true}
 use Prim.Native.Nat.{ℕ, _-_, _<_, _≤_}
-use lib.ListN.{drop, getD, length, replicate}
+use lib.ListN.{drop, getD, getD-replicate, length, replicate}
 use Rattle.ledger.proofs.Admitted.{is-begun, is-ranged, is-real, prices-fit}
 use Rattle.ledger.proofs.Bounded.{account-ranged, begun-ranged}
-use Rattle.ledger.proofs.Lists.{every-end, every-next, filled, filled-end, filled-next, length-mapped}
+use Rattle.ledger.proofs.Lists.{every-end, every-next, every-pass, filled, filled-end, filled-kept, filled-next, length-mapped}
 use Rattle.ledger.specs.Answers.{quiet}
 use Rattle.ledger.specs.Closing.{accountClosed, closed, closedAccount, complete, notOpen, reportOf, staysInRange}
 use Rattle.ledger.specs.Ranges.{accountInRange, everyAccount}
@@ -36,16 +37,28 @@ Inv-loop e l date terms next₀ reports₀ all₀ fits₀ i₀ next reports all 
 abbrev μ-loop : tie.MeasureT-loop
 μ-loop e l date terms next₀ reports₀ all₀ fits₀ i₀ next reports all fits i = 16 - i
 
--- an account that is not open stays as it is, and that is in its ranges
-shut-stays : (o : Bool) (k n : Closed) → accountInRange (n .day) && accountInRange (n .account) ≡ true
-    → cond o (accountInRange (cond o k n .day) && accountInRange (cond o k n .account)) true ≡ (accountInRange (cond o k n .day) && accountInRange (cond o k n .account))
-shut-stays true k n h = refl
-shut-stays false k n h = sym h
+-- an account that is not open stays as it is, and has nothing to report
 
-stays-as : (t : Terms) (e : Entry) (a : Account) → accountInRange a ≡ true
-    → cond (a .opened) (accountInRange (closedAccount t e a .day) && accountInRange (closedAccount t e a .account)) true ≡ staysInRange t e a
-unfolding staysInRange closedAccount notOpen
-stays-as t e a r = shut-stays (a .opened) _ (notOpen a) (rw r refl)
+module _ (t : Terms) (e : Entry) (a : Account) (o : a .opened ≡ false) where
+  shut : closedAccount t e a ≡ notOpen a
+  unfolding closedAccount
+  shut = rw o
+
+  shut-kept : accountClosed t e a ≡ a
+  unfolding accountClosed notOpen
+  shut-kept = ap (λ (c : Closed). c .account) shut
+
+  shut-quiet : reportOf t e a ≡ quiet
+  unfolding reportOf notOpen
+  shut-quiet = ap (λ (c : Closed). c .report) shut
+
+  shut-complete : complete (e .date) a ≡ true
+  unfolding complete
+  shut-complete = rw o
+
+  shut-stays : accountInRange a ≡ true → staysInRange t e a ≡ true
+  unfolding staysInRange notOpen
+  shut-stays r = ap (λ (c : Closed). accountInRange (c .day) && accountInRange (c .account)) shut ∙ rw r
 
 sixteen : (c : tie.Start Inv-loop μ-loop) → length (c .args .t1 .accounts) ≡ 16
 sixteen c = search (needs, length-mapped)
@@ -73,18 +86,24 @@ ranged r i h = account-ranged (r .args .t1) i (sixteen r) h (is-ranged (r .args 
 close-account-requires : tie.Need-close-account-requires Inv-loop μ-loop
 unfolding nobody noTotals noMarks accountAt
 close-account-requires c κs =
-    let r = c .before .before .before .before .before .before in (
-      is-real (r .args .t1) (r .args .e) (r .pre .0),
-      ranged r (c .before .before .loop .i) (omega arith),
-      in-force r,
-      prices-fit (r .args .t1) (r .args .e) (r .pre .0),
+    let r = c .before .before .before .before .before .before .before in (
+      (
+        is-real (r .args .t1) (r .args .e) (r .pre .0),
+        ranged r (c .before .before .before .loop .i) (omega arith),
+        in-force r,
+        prices-fit (r .args .t1) (r .args .e) (r .pre .0),
+      ),
+      c .if1 .taken,
     )
 
 complete-requires : tie.Need-complete-requires Inv-loop μ-loop
-complete-requires c κs = let r = c .before .before .before .before .before .before .before .before .before .before in is-real (r .args .t1) (r .args .e) (r .pre .0)
+complete-requires c κs = let r = c .before .before .before .before .before .before .before .before .before .before .before in is-real (r .args .t1) (r .args .e) (r .pre .0)
 
-stays-requires : tie.Need-stays-requires Inv-loop μ-loop
-stays-requires c κs = search needs
+account-in-range-requires : tie.Need-account-in-range-requires Inv-loop μ-loop
+account-in-range-requires c κs = search needs
+
+account-in-range-requires-2 : tie.Need-account-in-range-requires-2 Inv-loop μ-loop
+account-in-range-requires-2 c κs = search needs
 
 mul-account : tie.Need-mul-account Inv-loop μ-loop
 mul-account c = search needs
@@ -105,21 +124,31 @@ loop-less : tie.Need-loop-less Inv-loop μ-loop
 loop-less c = search needs
 
 loop-again : tie.Need-loop-again Inv-loop μ-loop
-unfolding nobody noTotals noMarks accountAt accountClosed reportOf
+unfolding nobody noTotals noMarks accountAt accountClosed reportOf staysInRange
 loop-again c =
-    let v = c .before .before .before .before .before .before .before .before .loop in
-    let r = c .before .before .before .before .before .before .before .before .before .before .before .before in
+    let v = c .before .before .before .loop in
+    let r = c .before .before .before .before .before .before .before in
     let l = r .args .t1 in
+    let a = getD (l .accounts) (v .i) nobody in
     let n : length (l .accounts) ≡ 16 = sixteen r in
-    let e = c .before .before .before .before .before .close-account .ensures in
-    let t = c .before .before .before .before .before .before .before .loop-test .taken in (
+    let t = c .before .before .loop-test .taken in (
       omega (arith, t),
-      rw (v .inv .1, e, filled-next (accountClosed (l .terms) (r .args .e)) (l .accounts) (l .accounts) (v .i) nobody (omega arith) (omega (arith, n, t))),
-      rw (v .inv .2, e, filled-next (reportOf (l .terms) (r .args .e)) (l .accounts) (replicate 16 quiet) (v .i) nobody (omega (arith, n)) (omega (arith, n, t))),
-      rw (c .before .complete .ensures)
-          (sym (every-next (complete (r .args .e .date)) (l .accounts) (v .i) nobody (v .all) (omega (arith, n, t))) ∙ v .inv .3),
-      rw (c .stays .ensures, e, stays-as (l .terms) (r .args .e) (getD (l .accounts) (v .i) nobody) (ranged r (v .i) (omega (arith, t))))
-          (sym (every-next (staysInRange (l .terms) (r .args .e)) (l .accounts) (v .i) nobody (v .fits) (omega (arith, n, t))) ∙ v .inv .4),
+      ⊎-elim
+          (λ w. w .8 ∙ rw (v .inv .1, w .1 .ensures, filled-next (accountClosed (l .terms) (r .args .e)) (l .accounts) (l .accounts) (v .i) nobody (omega arith) (omega (arith, n, t))))
+          (λ w. w .1 ∙ v .inv .1 ∙ ap (withAccounts l) (filled-kept (accountClosed (l .terms) (r .args .e)) (l .accounts) (l .accounts) (v .i) nobody nobody (omega arith) (omega (arith, n, t)) (shut-kept (l .terms) (r .args .e) a (w .0 .left))))
+          (c .if1 .came),
+      ⊎-elim
+          (λ w. w .9 ∙ rw (v .inv .2, w .1 .ensures, filled-next (reportOf (l .terms) (r .args .e)) (l .accounts) (replicate 16 quiet) (v .i) nobody (omega (arith, n)) (omega (arith, n, t))))
+          (λ w. w .2 ∙ v .inv .2 ∙ filled-kept (reportOf (l .terms) (r .args .e)) (l .accounts) (replicate 16 quiet) (v .i) nobody quiet (omega (arith, n)) (omega (arith, n, t)) (shut-quiet (l .terms) (r .args .e) a (w .0 .left) ∙ sym (getD-replicate 16 (v .i) quiet quiet (omega (arith, t)))))
+          (c .if1 .came),
+      ⊎-elim
+          (λ w. rw (w .10, w .5 .ensures) (sym (every-next (complete (r .args .e .date)) (l .accounts) (v .i) nobody (v .all) (omega (arith, n, t))) ∙ v .inv .3))
+          (λ w. rw (w .3) (sym (every-pass (complete (r .args .e .date)) (l .accounts) (v .i) nobody (v .all) (omega (arith, n, t)) (shut-complete (l .terms) (r .args .e) a (w .0 .left))) ∙ v .inv .3))
+          (c .if1 .came),
+      ⊎-elim
+          (λ w. rw (w .11, w .7 .ensures, w .6 .ensures, w .1 .ensures) (sym (every-next (staysInRange (l .terms) (r .args .e)) (l .accounts) (v .i) nobody (v .fits) (omega (arith, n, t))) ∙ v .inv .4))
+          (λ w. rw (w .4) (sym (every-pass (staysInRange (l .terms) (r .args .e)) (l .accounts) (v .i) nobody (v .fits) (omega (arith, n, t)) (shut-stays (l .terms) (r .args .e) a (w .0 .left) (ranged r (v .i) (omega (arith, t))))) ∙ v .inv .4))
+          (c .if1 .came),
     )
 
 day-after-requires : tie.Need-day-after-requires Inv-loop μ-loop
@@ -156,7 +185,8 @@ close-all-spec =
     element-copy-out-a
     close-account-requires
     complete-requires
-    stays-requires
+    account-in-range-requires
+    account-in-range-requires-2
     mul-account
     element-set-from-account
     mul-reports
