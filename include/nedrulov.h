@@ -218,6 +218,22 @@ nedrulov_replay_figures nedrulov_figures(const uint8_t *archive, size_t length);
  */
 uint64_t nedrulov_year_sheet(const uint8_t *archive, size_t length, uint64_t year, int64_t *cells, size_t count);
 
+/* ---- for programs that show where a figure comes from */
+
+typedef struct {
+    uint64_t minimum;               /* units */
+    uint64_t maximum;               /* units */
+} nedrulov_band_limits;
+
+/*
+ * What a DELIVER adds to its bank, in units, under the retainage of the terms in force, in ten-thousandths; delivered and
+ * back-cast in units. 0 where the retainage is above 9,999 or one of the others above 1,000,000,000.
+ */
+int64_t nedrulov_amount(uint64_t retainage, uint64_t delivered, uint64_t back_cast);
+
+/* The least and the largest bank of a month, 1 to 12, for a BCQ in Dth. 0 and 0 for another month, or a BCQ above 30,000,000. */
+nedrulov_band_limits nedrulov_band(uint64_t month, uint64_t bcq);
+
 /* ---- the layout that the library was built with */
 
 #if defined(__STDC_VERSION__) && __STDC_VERSION__ >= 201112L

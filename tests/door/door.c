@@ -126,6 +126,21 @@ static void archive_calls(const uint8_t *archive, size_t length, const uint8_t *
     expect(cells[NEDRULOV_CELLS] == 0x5A5A5A5A5A5A5A5A, "a cell past the sheet changed", 0);
 }
 
+/* Document 01's first and third marked cases, and what lies outside every range. */
+static void limits(void)
+{
+    expect(nedrulov_amount(150, 1000, 0) == 985 && nedrulov_amount(150, 0, 1001) == -985, "amount", 0);
+    expect(nedrulov_amount(150, 1, 0) == 0 && nedrulov_amount(150, 0, 1) == 0, "amount toward zero", 0);
+    expect(nedrulov_amount(10000, 1000, 0) == 0 && nedrulov_amount(0, 1000000001, 0) == 0, "amount out of range", 0);
+    expect(nedrulov_amount(0, 1000000000, 0) == 1000000000 && nedrulov_amount(0, 0, UINT64_MAX) == 0, "largest amount", 0);
+    nedrulov_band_limits april = nedrulov_band(4, 62505);
+    nedrulov_band_limits november = nedrulov_band(11, 30000000);
+    expect(april.minimum == 0 && april.maximum == 1562625, "band of April", 0);
+    expect(november.minimum == 2850000000 && november.maximum == 2940000000, "band of November", 0);
+    expect(nedrulov_band(0, 1).maximum == 0 && nedrulov_band(13, 1).maximum == 0, "band of no month", 0);
+    expect(nedrulov_band(4, 30000001).maximum == 0, "band of no BCQ", 0);
+}
+
 int main(int argc, char **argv)
 {
     static uint8_t archive[1 << 20];
@@ -138,6 +153,7 @@ int main(int argc, char **argv)
     fclose(file);
     size_t body = 8 + 8 * (size_t)(archive[4] + 256 * archive[5]);
 
+    limits();
     first_day();
     archive_calls(archive, length, archive + body, length - body);
     guarded lent;

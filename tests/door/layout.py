@@ -12,13 +12,13 @@ STRUCTS = {
     "Totals": "nedrulov_totals", "Marks": "nedrulov_marks", "Account": "nedrulov_account", "Ledger": "nedrulov_ledger",
     "Report": "nedrulov_report", "Answer": "nedrulov_answer", "Posted": "nedrulov_posted",
     "Panel": "nedrulov_panel_answer", "Checked": "nedrulov_checked", "Place": "nedrulov_section_place",
-    "Written": "nedrulov_written", "Figures": "nedrulov_replay_figures",
+    "Written": "nedrulov_written", "Figures": "nedrulov_replay_figures", "Band": "nedrulov_band_limits",
 }
 SOURCES = (
     "crates/tariff/src/dates.rt", "crates/tariff/src/terms.rt", "crates/tariff/src/steps.rt",
     "crates/tariff/src/bill.rt", "crates/ledger/src/state.rt", "crates/ledger/src/answers.rt",
     "crates/ledger/src/panels.rt", "crates/archive/src/entries.rt", "crates/archive/src/reading.rt",
-    "crates/archive/src/writing.rt", "crates/archive/src/replaying.rt",
+    "crates/archive/src/writing.rt", "crates/archive/src/replaying.rt", "crates/nedrulov/src/lib.rt",
 )
 # A tuple struct of one number is that number on the other side.
 NUMBERS = {"Units": "i64", "Mills": "i64", "Quantity": "u64", "Dth": "u64", "Mcf": "u64", "Month": "u64"}

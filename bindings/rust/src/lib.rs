@@ -167,6 +167,14 @@ pub struct Figures {
     pub figure: i64,
 }
 
+/// The least and the largest bank of a month, in units.
+#[repr(C)]
+#[derive(Clone, Copy, Debug, PartialEq, Eq)]
+pub struct Band {
+    pub minimum: u64,
+    pub maximum: u64,
+}
+
 /// A ledger with no terms, no date and no open account.
 pub fn fresh() -> Ledger {
     unsafe { ffi::nedrulov_fresh() }
@@ -228,4 +236,14 @@ pub fn year_sheet(archive: &[u8], year: u64) -> [[i64; MONTHS]; ACCOUNTS] {
         unsafe { ffi::nedrulov_year_sheet(archive.as_ptr(), archive.len(), year, cells.as_mut_ptr(), cells.len()) };
     assert_eq!(number, 0, "192 cells are enough");
     std::array::from_fn(|account| std::array::from_fn(|month| cells[MONTHS * account + month]))
+}
+
+/// What a DELIVER adds to its bank under a retainage, in units; 0 where one of the three is out of its range.
+pub fn amount(retainage: u64, delivered: u64, back_cast: u64) -> i64 {
+    unsafe { ffi::nedrulov_amount(retainage, delivered, back_cast) }
+}
+
+/// The least and the largest bank of a month, 1 to 12, for a BCQ in Dth; 0 and 0 where one of the two is out of its range.
+pub fn band(month: u64, bcq: u64) -> Band {
+    unsafe { ffi::nedrulov_band(month, bcq) }
 }

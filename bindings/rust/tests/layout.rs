@@ -21,6 +21,7 @@ fn sizes() {
     assert_eq!(size_of::<Place>(), 32);
     assert_eq!(size_of::<Written>(), 24);
     assert_eq!(size_of::<Figures>(), 40);
+    assert_eq!(size_of::<Band>(), 16);
 }
 
 #[test]
