@@ -1,16 +1,15 @@
 -- The pairs as parts of the file, one after the other up to its end.
-use borrow.Author.Tests.{eqb-true, ltb-true, eq-eqb, lt-ltb}
+use borrow.Author.Tests.{eqb-true, eq-eqb, lt-ltb}
 use native.Mathlib.Omega.{arith}
 use Prim.Native.Nat.{ℕ, zero, suc, _+_, _%_, _<_, _≤_}
 use mathlib.Core.Path.{_≡_, refl, sym, ap, _∙_, subst}
 use mathlib.Core.Bool.{true}
 use mathlib.Core.List.{List, [], _∷_, _++_, map, append-assoc}
-use lib.Dec.{eqb, ltb}
 use lib.ListN.{length, getD, take, drop, length-drop, length-append, take-append-drop, drop-of-length-le}
 use lib.Seq.{length-take-le, drop-drop, take-at, drop-at}
-use Rattle.tariff.proofs.Bools.{and-left, and-right}
 use Rattle.archive.specs.Layout.{together}
 use Rattle.archive.specs.Reading.{Pair, pairAt, pairsFrom, rightLength, rightPairs, partAt}
+use Rattle.archive.proofs.Pairs.{right-start, right-length, right-rest}
 use Rattle.archive.proofs.Partitions.{Good}
 use Rattle.archive.proofs.Directories.{pairsFor}
 
@@ -46,15 +45,13 @@ pub record Parted (a : List ℕ) (off : ℕ) (ps : List Pair) : Type 0 where
   pub all : together (map (partAt a) ps) ≡ drop off a
   pub within : off ≤ length a
 
-one-more : (a : List ℕ) (p : Pair) (ps : List Pair) → rightLength (p .1) ≡ true → Parted a (p .0 + p .1) ps → Parted a (p .0) (p ∷ ps)
-unfolding rightLength pairsFor together partAt
+one-more : (a : List ℕ) (p : Pair) (ps : List Pair) → (0 < p .1) × (p .1 % 32 ≡ 0) → Parted a (p .0 + p .1) ps → Parted a (p .0) (p ∷ ps)
+unfolding pairsFor together partAt
 one-more a p ps h t =
     let size : length (partAt a p) ≡ p .1 = length-take-le (p .1) (drop (p .0) a) (rw length-drop (omega (arith, t .within))) in
-    let some : 0 < p .1 = ltb-true 0 (p .1) (and-left (ltb 0 (p .1)) (eqb (p .1 % 32) 0) h) in
-    let whole : p .1 % 32 ≡ 0 = eqb-true (p .1 % 32) 0 (and-right (ltb 0 (p .1)) (eqb (p .1 % 32) 0) h) in
     record {
       named = rw size (ap (λ r. p ∷ r) (t .named));
-      good = (record { some = rw size some; whole = rw size whole }, t .good);
+      good = (record { some = rw size (h .0); whole = rw size (h .1) }, t .good);
       all = rw (t .all, ← drop-drop (p .1) (p .0) a) (take-append-drop (p .1) (drop (p .0) a));
       within = omega (arith, t .within);
     }
@@ -65,7 +62,5 @@ parted a [] off h =
     let e : off ≡ length a = eqb-true off (length a) h in
     record { named = refl; good = tt; all = sym (drop-of-length-le a {i = off} (omega arith)); within = omega arith }
 parted a (p ∷ ps) off h =
-    let start : p .0 ≡ off = eqb-true (p .0) off (search (and-left, and-right)) in
-    let right : rightLength (p .1) ≡ true = search (and-left, and-right) in
-    let rest : rightPairs (length a) (off + p .1) ps ≡ true = search (and-left, and-right) in
-    subst (λ (k : ℕ). Parted a k (p ∷ ps)) start (one-more a p ps right (rw start (parted a ps (off + p .1) rest)))
+    subst (λ (k : ℕ). Parted a k (p ∷ ps)) (right-start (length a) off p ps h)
+    (one-more a p ps (right-length (length a) off p ps h) (rw (right-start (length a) off p ps h) (parted a ps (off + p .1) (right-rest (length a) off p ps h))))

@@ -25,8 +25,12 @@ together (s ∷ ss) = s ++ together ss
 
 -- ---- the bytes of an archive
 
+-- "EFB1"
+abbrev pub opening : List ℕ
+opening = 69 ∷ 70 ∷ 66 ∷ 49 ∷ []
+
 unfoldable pub header : ℕ → List ℕ
-header count = 69 ∷ 70 ∷ 66 ∷ 49 ∷ bytesOf 2 count ++ 0 ∷ 0 ∷ []
+header count = opening ++ bytesOf 2 count ++ 0 ∷ 0 ∷ []
 
 -- "each next one the former end": a pair for each section, the first beginning at an offset
 unfoldable pub directory : ℕ → List (List ℕ) → List ℕ

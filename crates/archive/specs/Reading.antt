@@ -7,7 +7,7 @@ use lib.ListN.{length, getD, take, drop}
 use Rattle.ledger.specs.Entries.{formNumber}
 use Rattle.archive.specs.Words.{halfAt, wordAt}
 use Rattle.archive.specs.Entries.{entriesOf, closesMonth, finding, firstRefusal}
-use Rattle.archive.specs.Layout.{bodyAt}
+use Rattle.archive.specs.Layout.{opening, bodyAt}
 use Rattle.archive.specs.declared.entries.Checked.{Checked}
 use Rattle.archive.specs.declared.reading.Place.{Place}
 
@@ -17,7 +17,11 @@ unfoldable pub sectionCount : List ℕ → ℕ
 sectionCount a = halfAt a 4
 
 unfoldable pub rightOpening : List ℕ → Bool
-rightOpening a = eqb (getD a 0 0) 69 && eqb (getD a 1 0) 70 && eqb (getD a 2 0) 66 && eqb (getD a 3 0) 49
+rightOpening a =
+    eqb (getD a 0 0) (getD opening 0 0)
+    && eqb (getD a 1 0) (getD opening 1 0)
+    && eqb (getD a 2 0) (getD opening 2 0)
+    && eqb (getD a 3 0) (getD opening 3 0)
 
 unfoldable pub wrongHeader : List ℕ → Bool
 wrongHeader a =
