@@ -37,17 +37,15 @@ fn decimal(value: i64, places: u32) -> String {
     format!("{sign}{}.{:0width$}", size / one, size % one)
 }
 
-/// The reverse of a decimal without a sign: digits, and exactly `places` decimals. None where it is not, or is too large.
-pub fn read_decimal(text: &str, places: usize) -> Option<u32> {
+/// The reverse of a decimal without a sign: digits, and exactly `places` decimals. What u64 cannot hold is its largest.
+pub fn read_decimal(text: &str, places: usize) -> Option<u64> {
     let (whole, part) = match places {
         0 => (text, ""),
         _ => text.split_once('.')?,
     };
     let digits = |text: &str| text.bytes().all(|b| b.is_ascii_digit());
     let right = !whole.is_empty() && digits(whole) && part.len() == places && digits(part);
-    right
-        .then(|| format!("{whole}{part}").parse().ok())
-        .flatten()
+    right.then(|| format!("{whole}{part}").parse().unwrap_or(u64::MAX))
 }
 
 #[cfg(test)]
@@ -80,8 +78,7 @@ mod tests {
     #[test]
     fn decimals_read() {
         assert_eq!(read_decimal("1234.56", 2), Some(123_456));
-        assert_eq!(read_decimal("42949672.95", 2), Some(u32::MAX));
-        assert_eq!(read_decimal("42949672.96", 2), None);
+        assert_eq!(read_decimal(&"9".repeat(30), 0), Some(u64::MAX));
         assert_eq!(read_decimal("4200", 0), Some(4200));
         for wrong in [
             "", ".50", "1.5", "1.500", "1", "-1.00", "+1.00", "1,000.00", "1.0x", "1 .00",

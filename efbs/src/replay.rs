@@ -1,7 +1,8 @@
 //! An archive's entries posted, in file order, to a fresh ledger.
 
+use crate::archive::entries;
 use crate::entry::Entry;
-use nedrulov::{Answer, Ledger, ENTRY_BYTES};
+use nedrulov::{Answer, Ledger};
 use std::convert::Infallible;
 use std::ops::ControlFlow;
 
@@ -24,30 +25,6 @@ impl Step<'_> {
     pub fn accepted(&self) -> bool {
         self.answer.number == 0
     }
-}
-
-/// The entries of an archive that the library accepts: all that follows its directory.
-pub fn list(archive: &[u8]) -> Result<&[u8], Refusal> {
-    const HEADER: usize = 8;
-    const PAIR: usize = 8;
-    let checked = nedrulov::check(archive);
-    let refusal = Refusal {
-        number: checked.number,
-        index: checked.index,
-    };
-    match archive {
-        [_, _, _, _, low, high, ..] if checked.number == 0 => {
-            let sections = usize::from(u16::from_le_bytes([*low, *high]));
-            archive.get(HEADER + PAIR * sections..).ok_or(refusal)
-        }
-        _ => Err(refusal),
-    }
-}
-
-/// The entries of an archive in file order, each as its bytes.
-pub fn entries(archive: &[u8]) -> Result<impl Iterator<Item = &[u8; ENTRY_BYTES]>, Refusal> {
-    let whole = list(archive)?.chunks_exact(ENTRY_BYTES);
-    Ok(whole.filter_map(|bytes| bytes.try_into().ok()))
 }
 
 /// Checks the archive, then posts its entries in file order to a fresh ledger and shows each step; the last ledger.

@@ -1,0 +1,88 @@
+//! The year sheet: banks after each month's closing.
+
+use crate::amounts::{gas, grouped};
+use crate::failure::Failure;
+use crate::movements::Movements;
+use crate::replay::{replay, Refusal};
+use crate::words::month_name;
+use nedrulov::MONTHS;
+use std::io::{self, Write};
+
+/// A gas year's banks of the accounts that the archive ever enrolls.
+struct Sheet {
+    year: u64,
+    rows: Vec<(usize, [i64; MONTHS])>,
+}
+
+pub fn write(archive: &[u8], year: u64, csv: bool, out: &mut dyn Write) -> Result<(), Failure> {
+    let sheet = sheet(archive, year)?;
+    match csv {
+        true => write_csv(&sheet, out)?,
+        false => write_table(&sheet, out)?,
+    }
+    Ok(())
+}
+
+fn sheet(archive: &[u8], year: u64) -> Result<Sheet, Refusal> {
+    let mut movements = Movements::default();
+    replay(archive, |step| {
+        movements.of(step);
+    })?;
+    let banks = nedrulov::year_sheet(archive, year);
+    let rows = movements
+        .enrolled()
+        .map(|account| (account, banks[account]));
+    Ok(Sheet {
+        year,
+        rows: rows.collect(),
+    })
+}
+
+/// Calendar year and month of the sheet's columns, April first.
+fn months(year: u64) -> impl Iterator<Item = (u64, u8)> {
+    (4..=12)
+        .map(move |month| (year, month))
+        .chain((1..=3).map(move |month| (year + 1, month)))
+}
+
+fn write_csv(sheet: &Sheet, out: &mut dyn Write) -> io::Result<()> {
+    let names = months(sheet.year).map(|(year, month)| format!(",{year:04}-{month:02}"));
+    writeln!(out, "account{}", names.collect::<String>())?;
+    for (account, banks) in &sheet.rows {
+        let cells: String = banks
+            .iter()
+            .map(|bank| format!(",{}", gas(*bank)))
+            .collect();
+        writeln!(out, "{account}{cells}")?;
+    }
+    Ok(())
+}
+
+fn write_table(sheet: &Sheet, out: &mut dyn Write) -> io::Result<()> {
+    let (year, next) = (sheet.year, sheet.year + 1);
+    writeln!(
+        out,
+        "Banks in Dth after each month's closing, April {year} to March {next}\n"
+    )?;
+    let names = months(year).map(|(_, month)| month_name(month).to_string());
+    let mut lines = vec![("account".to_string(), names.collect::<Vec<_>>())];
+    for (account, banks) in &sheet.rows {
+        let cells = banks.iter().map(|bank| grouped(&gas(*bank)));
+        lines.push((account.to_string(), cells.collect()));
+    }
+    let longest = |column: usize| lines.iter().map(|(_, cells)| cells[column].len()).max();
+    let widths: Vec<usize> = (0..MONTHS)
+        .map(|column| longest(column).unwrap_or(0))
+        .collect();
+    for (name, cells) in &lines {
+        let cells = cells
+            .iter()
+            .zip(&widths)
+            .map(|(cell, width)| format!("  {cell:>width$}"));
+        writeln!(out, "{name:>7}{}", cells.collect::<String>())?;
+    }
+    writeln!(
+        out,
+        "\n0.00 also stands where a month was not closed or an account not yet open."
+    )
+}
