@@ -13,20 +13,23 @@ pub fn entries(archive: &[u8]) -> Result<impl Iterator<Item = &[u8; ENTRY_BYTES]
     Ok(whole.filter_map(|bytes| bytes.try_into().ok()))
 }
 
+/// What the library says of an archive.
+pub fn check(archive: &[u8]) -> Result<(), Refusal> {
+    let checked = nedrulov::check(archive);
+    match checked.number {
+        0 => Ok(()),
+        number => Err(Refusal {
+            number,
+            index: checked.index,
+        }),
+    }
+}
+
 /// What follows the directory of an archive that the library accepts: its list.
 fn list(archive: &[u8]) -> Result<&[u8], Refusal> {
-    let checked = nedrulov::check(archive);
-    let refusal = Refusal {
-        number: checked.number,
-        index: checked.index,
-    };
-    match archive {
-        [_, _, _, _, low, high, ..] if checked.number == 0 => {
-            let sections = usize::from(u16::from_le_bytes([*low, *high]));
-            archive.get(HEADER + PAIR * sections..).ok_or(refusal)
-        }
-        _ => Err(refusal),
-    }
+    check(archive)?;
+    let count = [archive[4], archive[5]];
+    Ok(&archive[HEADER + PAIR * usize::from(u16::from_le_bytes(count))..])
 }
 
 /// The archive of a list.

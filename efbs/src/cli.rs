@@ -126,12 +126,9 @@ efbs COMMAND --help tells more of a command.
 }
 
 fn help(command: &Command) -> String {
-    format!(
-        "{}\n\n{}.\n{}\n",
-        usage(command),
-        command.about,
-        command.help
-    )
+    let (first, rest) = command.about.split_at(1);
+    let about = first.to_uppercase() + rest;
+    format!("{}\n\n{about}.\n{}\n", usage(command), command.help)
 }
 
 fn usage(command: &Command) -> String {

@@ -269,6 +269,12 @@ mod tests {
     use super::*;
     use crate::entry::Day;
 
+    const DATE: Day = Day {
+        year: 2026,
+        month: 4,
+        day: 1,
+    };
+
     #[test]
     fn every_unit_reads_what_it_writes() {
         for unit in [
@@ -290,16 +296,11 @@ mod tests {
     /// The library knows which bytes a kind uses: each named place may be set, and no other.
     #[test]
     fn forms_name_the_bytes_that_the_library_uses() {
-        let date = Day {
-            year: 2026,
-            month: 4,
-            day: 1,
-        };
         for kind in Kind::ALL {
-            let blank = Entry::blank(kind, date).to_bytes();
+            let blank = Entry::blank(kind, DATE).to_bytes();
             let mut named = [false; 32];
             for value in kind.form().all_values() {
-                let mut entry = Entry::blank(kind, date);
+                let mut entry = Entry::blank(kind, DATE);
                 let words = value.place.set(&mut entry, u64::from(u32::MAX));
                 let byte = || value.place.set(&mut entry, u64::from(u8::MAX));
                 assert_eq!(words.or_else(byte), Some(()), "{}", value.name);
@@ -318,8 +319,14 @@ mod tests {
                     kind.form().word
                 );
             }
+        }
+    }
+
+    #[test]
+    fn forms_name_the_flags_that_the_library_uses() {
+        for kind in Kind::ALL {
             for flags in 0..=255 {
-                let mut entry = Entry::blank(kind, date);
+                let mut entry = Entry::blank(kind, DATE);
                 entry.flags = flags;
                 let unused = nedrulov::entry_number(&entry.to_bytes()) == 5;
                 let told: u8 = kind.form().flags.list().iter().map(|flag| flag.bits).sum();

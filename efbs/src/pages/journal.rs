@@ -2,6 +2,7 @@
 
 use super::show;
 use crate::amounts::{gas, money};
+use crate::archive::check;
 use crate::entry::Kind;
 use crate::failure::Failure;
 use crate::movements::{Cause, Movement, Movements};
@@ -35,8 +36,10 @@ const ACCOUNTS_OF_SUPPLIER: [&str; 10] = [
 ];
 
 pub fn write(archive: &[u8], out: &mut dyn Write) -> Result<(), Failure> {
-    let mut movements = Movements::default();
+    // Nothing is written of a refused archive.
+    check(archive)?;
     out.write_all(HEAD.as_bytes())?;
+    let mut movements = Movements::default();
     show(archive, |step| {
         for movement in movements.of(step) {
             write_movement(step, movement, out)?;

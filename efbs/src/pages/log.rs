@@ -5,7 +5,7 @@ use crate::amounts::{gas, grouped, money};
 use crate::entry::{Entry, Kind};
 use crate::failure::Failure;
 use crate::form::{Unit, Value};
-use crate::movements::Movements;
+use crate::movements::{Movement, Movements};
 use crate::replay::Step;
 use crate::words::{refusal, violation, violation_list};
 use nedrulov::{Account, Report, ACCOUNTS};
@@ -119,14 +119,23 @@ fn effect(step: &Step, movements: &mut Movements) -> String {
         Kind::Deliver | Kind::Trade | Kind::Transfer => moved
             .iter()
             .map(|movement| {
-                let way = if movement.units < 0 { "down" } else { "up" };
-                let size = grouped(&gas(movement.units.abs()));
-                let bank = grouped(&gas(step.after.accounts[movement.account].bank));
-                format!("; bank {} {way} {size} to {bank} Dth", movement.account)
+                let bank = step.after.accounts[movement.account].bank;
+                format!("; {}", moved_in_words(movement, bank))
             })
             .collect(),
         _ => String::new(),
     }
+}
+
+fn moved_in_words(movement: &Movement, bank: i64) -> String {
+    let bank = grouped(&gas(bank));
+    let size = grouped(&gas(movement.units.abs()));
+    let way = match movement.units {
+        0 => return format!("bank {} stays at {bank} Dth", movement.account),
+        1.. => "up",
+        _ => "down",
+    };
+    format!("bank {} {way} {size} to {bank} Dth", movement.account)
 }
 
 fn step_in_words(account: &Account) -> String {

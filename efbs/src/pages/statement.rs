@@ -3,9 +3,9 @@
 use crate::amounts::{gas, grouped, money};
 use crate::entry::Day;
 use crate::failure::Failure;
-use crate::statement::{books, Statement};
+use crate::statement::{books, Books, Statement};
 use crate::words::violation;
-use std::io::{self, Write};
+use std::io::Write;
 
 pub fn write(
     archive: &[u8],
@@ -14,31 +14,13 @@ pub fn write(
     out: &mut dyn Write,
 ) -> Result<(), Failure> {
     let books = books(archive, until)?;
-    if let Some(day) = until {
-        writeln!(out, "Entries dated up to and with {day}.\n")?;
-    }
-    let chosen = |statement: &&Statement| account.is_none_or(|n| n == statement.account);
-    let shown: Vec<&Statement> = books.statements.iter().filter(chosen).collect();
-    for statement in &shown {
-        write_statement(statement, out)?;
-    }
-    let mut agree = shown.iter().all(|statement| statement.agrees());
-    match account {
-        Some(account) if shown.is_empty() => return Err(never_enrolled(account)),
-        Some(_) => {}
-        None => {
-            let sum = books.statements.iter().map(Statement::sum).sum();
-            let panel = nedrulov::panel(books.ledger).figure;
-            head("All suppliers", "Dth", out)?;
-            compared(
-                "sum of their banks",
-                "panel figure",
-                [sum, panel].map(gas),
-                out,
-            )?;
-            agree &= sum == panel;
-        }
-    }
+    let head = until.map(|day| format!("Entries dated up to and with {day}.\n"));
+    let (page, agree) = match account {
+        Some(account) => one(&books, account)?,
+        None => all(&books),
+    };
+    let page = head.unwrap_or_default() + &page;
+    out.write_all(page.trim_start().as_bytes())?;
     match agree {
         true => Ok(()),
         false => Err(Failure::Told(
@@ -48,22 +30,38 @@ pub fn write(
     }
 }
 
-fn never_enrolled(account: usize) -> Failure {
-    Failure::Told(format!(
-        "account {account} was not enrolled by then. Without --account all suppliers are shown."
-    ))
+/// A supplier's page, and whether it agrees with the ledger.
+fn one(books: &Books, account: usize) -> Result<(String, bool), Failure> {
+    let found = books.statements.iter().find(|s| s.account == account);
+    let missing = || {
+        Failure::Told(format!(
+            "account {account} is not enrolled. Without --account all that are enrolled are shown."
+        ))
+    };
+    let statement = found.ok_or_else(missing)?;
+    Ok((page(statement), statement.agrees()))
 }
 
-fn write_statement(statement: &Statement, out: &mut dyn Write) -> io::Result<()> {
-    writeln!(out, "SUPPLIER {}\n", statement.account)?;
-    write_bank(statement, out)?;
-    write_bills(statement, out)?;
-    write_violations(statement, out)
+/// Every supplier's page and the sum of all, and whether they agree with the ledger.
+fn all(books: &Books) -> (String, bool) {
+    let sum: i64 = books.statements.iter().map(Statement::sum).sum();
+    let panel = nedrulov::panel(books.ledger).figure;
+    let pages: String = books.statements.iter().map(page).collect();
+    let total = compared("sum of their banks", "panel figure", [sum, panel].map(gas));
+    let agree = books.statements.iter().all(Statement::agrees) && sum == panel;
+    (
+        pages + "\nALL SUPPLIERS\n" + &head("Bank", "Dth") + &total,
+        agree,
+    )
 }
 
-fn write_bank(s: &Statement, out: &mut dyn Write) -> io::Result<()> {
-    head("Bank", "Dth", out)?;
-    for (name, units) in [
+fn page(statement: &Statement) -> String {
+    let title = format!("\nSUPPLIER {}\n", statement.account);
+    title + &bank(statement) + &bills(statement) + &violations(statement)
+}
+
+fn bank(s: &Statement) -> String {
+    let terms = [
         ("opening", s.opening),
         ("deliveries less back-casts, after retainage", s.deliveries),
         ("company sales to it", s.sales),
@@ -73,66 +71,106 @@ fn write_bank(s: &Statement, out: &mut dyn Write) -> io::Result<()> {
         ("cash-ins", s.cash_ins),
         ("cash-outs", -s.cash_outs),
         ("forfeits", -s.forfeits),
-    ] {
-        row(name, &gas(units), "", out)?;
-    }
-    compared("sum", "bank in the ledger", [s.sum(), s.bank].map(gas), out)
+    ];
+    let rows: String = terms
+        .iter()
+        .map(|(name, units)| row(name, &gas(*units)))
+        .collect();
+    let sums = compared("sum", "bank in the ledger", [s.sum(), s.bank].map(gas));
+    head("Bank", "Dth") + &rows + &sums
 }
 
-fn write_bills(s: &Statement, out: &mut dyn Write) -> io::Result<()> {
-    head("Bills", "$", out)?;
-    for bill in &s.bills {
-        row(&bill.date.to_string(), &money(bill.mills), "", out)?;
-    }
-    compared(
+fn bills(s: &Statement) -> String {
+    let bill = |bill: &crate::statement::Bill| row(&bill.date.to_string(), &money(bill.mills));
+    let rows: String = s.bills.iter().map(bill).collect();
+    let sums = compared(
         "sum",
         "owed in the ledger",
         [s.owed_sum(), s.owed].map(money),
-        out,
-    )
+    );
+    head("Bills", "$") + &rows + &sums
 }
 
-fn write_violations(s: &Statement, out: &mut dyn Write) -> io::Result<()> {
-    head("Violations", "days", out)?;
-    for (place, days) in s
-        .violations
-        .iter()
-        .enumerate()
-        .filter(|(_, days)| **days > 0)
-    {
-        let v = place + 1;
-        row(
-            &format!("V{v} {}", violation(v)),
-            &days.to_string(),
-            "",
-            out,
-        )?;
-    }
+fn violations(s: &Statement) -> String {
+    let reported = (1..).zip(s.violations).filter(|(_, days)| *days > 0);
+    let rows: String = reported
+        .map(|(v, days)| row(&format!("V{v} {}", violation(v)), &days.to_string()))
+        .collect();
     let days = [s.violation_days, s.days].map(|days| days.to_string());
-    compared(
+    let sums = compared(
         "days with any of them",
         "violation days in the ledger",
         days,
-        out,
-    )
+    );
+    head("Violations", "days") + &rows + &sums
 }
 
-fn head(title: &str, unit: &str, out: &mut dyn Write) -> io::Result<()> {
-    writeln!(out, "  {title:<48}{unit:>18}")
+fn head(title: &str, unit: &str) -> String {
+    format!("\n  {title:<48}{unit:>18}\n")
 }
 
-fn row(name: &str, number: &str, remark: &str, out: &mut dyn Write) -> io::Result<()> {
-    writeln!(out, "    {name:<46}{:>18}{remark}", grouped(number))
+fn row(name: &str, number: &str) -> String {
+    format!("    {name:<46}{:>18}\n", grouped(number))
 }
 
 /// A sum, and below it the ledger's figure with a word on whether they agree.
-fn compared(sum: &str, held: &str, figures: [String; 2], out: &mut dyn Write) -> io::Result<()> {
-    let remark = if figures[0] == figures[1] {
-        "  agrees"
-    } else {
-        "  DIFFERS"
+fn compared(sum: &str, held: &str, figures: [String; 2]) -> String {
+    let remark = match figures[0] == figures[1] {
+        true => "agrees",
+        false => "DIFFERS",
     };
-    row(sum, &figures[0], "", out)?;
-    row(held, &figures[1], remark, out)?;
-    writeln!(out)
+    let held = row(held, &figures[1]);
+    format!("{}{}  {remark}\n", row(sum, &figures[0]), held.trim_end())
+}
+
+#[cfg(test)]
+mod tests {
+    use super::*;
+
+    fn books() -> Books {
+        let mut ledger = nedrulov::fresh();
+        ledger.accounts[2].opened = true;
+        ledger.accounts[2].bank = 1_000;
+        ledger.accounts[2].step.k = 1;
+        ledger.accounts[2].step.pending = 1;
+        let statement = Statement {
+            account: 2,
+            opening: 1_000,
+            bank: 1_000,
+            ..Statement::default()
+        };
+        Books {
+            statements: vec![statement],
+            ledger,
+        }
+    }
+
+    #[test]
+    fn agreement_is_told() {
+        let (page, agree) = all(&books());
+        assert!(agree && page.matches("  agrees\n").count() == 4);
+        assert!(!page.contains("DIFFERS"));
+    }
+
+    #[test]
+    fn every_difference_is_told() {
+        let changes: [fn(&mut Books); 4] = [
+            |books| books.statements[0].bank += 1,
+            |books| books.statements[0].owed += 1,
+            |books| books.statements[0].days += 1,
+            |books| books.ledger.accounts[2].bank += 1,
+        ];
+        for change in changes {
+            let mut books = books();
+            change(&mut books);
+            let (page, agree) = all(&books);
+            assert!(!agree && page.matches("  DIFFERS\n").count() == 1, "{page}");
+        }
+    }
+
+    #[test]
+    fn accounts_that_are_not_enrolled() {
+        assert!(one(&books(), 2).is_ok_and(|(_, agree)| agree));
+        assert!(one(&books(), 3).is_err());
+    }
 }

@@ -1,0 +1,89 @@
+"""The sample's journal read by hledger and by ledger: both accept it, find the statement's balances, and notice a wrong figure."""
+
+import re
+import subprocess
+import sys
+
+from checks import Checks, read, run, write
+
+# A statement's line, and the account of the journal that must hold the same, with the sign that it has there.
+TERMS = {
+    "opening": ("openings:NN", -1),
+    "deliveries less back-casts, after retainage": ("deliveries:NN", -1),
+    "company sales to it": ("company:sales:NN", -1),
+    "company purchases from it": ("company:purchases:NN", -1),
+    "cash-ins": ("company:cash-ins:NN", -1),
+    "cash-outs": ("company:cash-outs:NN", -1),
+    "forfeits": ("company:forfeits:NN", -1),
+    "bank in the ledger": ("supplier:NN:bank", 1),
+    "owed in the ledger": ("supplier:NN:owed", 1),
+}
+# Accepts or refuses a journal; then prints "account|amount" for every account.
+PROGRAMS = {
+    "hledger": (["check", "--strict"], ["balance", "--flat", "--no-total", "--empty", "--format", "%(account)|%(total)"]),
+    "ledger": (["--pedantic", "balance"], ["balance", "--flat", "--no-total", "--empty", "--format", "%(account)|%(display_total)\n"]),
+}
+
+
+def accounting(program, arguments, journal):
+    return subprocess.run([program, "-f", journal, *arguments], stdout=subprocess.PIPE, stderr=subprocess.PIPE, text=True)
+
+
+def thousandths(text):
+    """A decimal with two or three places as a whole number, so that nothing is rounded."""
+    whole, _, part = text.replace(",", "").partition(".")
+    return int(whole + part.ljust(3, "0"))
+
+
+def balances(program, journal):
+    """Account to balance, in thousandths."""
+    lines = accounting(program, PROGRAMS[program][1], journal).stdout.split("\n")
+    pairs = (line.strip().split("|") for line in lines if "|" in line)
+    return {account: thousandths(amount.split()[0]) for account, amount in pairs}
+
+
+def statement_terms(archive):
+    """(supplier, line) to amount, in thousandths."""
+    found, supplier = {}, None
+    for line in run("statement", archive)[1].decode().split("\n"):
+        title = re.fullmatch(r"SUPPLIER (\d+)", line)
+        row = re.fullmatch(r"    (\S.*?)\s{2,}(-?[\d,.]+)(  agrees)?", line)
+        if title or line == "ALL SUPPLIERS":
+            supplier = title and int(title[1])
+        elif row and supplier is not None and row[1] in TERMS:
+            found[supplier, row[1]] = thousandths(row[2])
+    return found
+
+
+def wrong_figures(journal):
+    """The journal with one asserted balance off by its smallest part: the first bank, the last bank, the last owed."""
+    places = [match for match in re.finditer(r"= (-?\d+\.\d+)(?= (DTH|USD))", journal)]
+    banks = [place for place in places if place[2] == "DTH"]
+    for place in (banks[0], banks[-1], places[-1]):
+        last = place.end() - 1
+        digit = str((int(journal[last]) + 1) % 10)
+        yield journal[:last] + digit + journal[last + 1:]
+
+
+def main():
+    folder, archive, checks = sys.argv[1], sys.argv[2], Checks("journal")
+    journal = write(f"{folder}/sample.journal", run("journal", archive)[1])
+    terms = statement_terms(archive)
+    checks.that(len(terms) == 4 * len(TERMS), "the statement has every term of four suppliers")
+    for program, (accepts, _) in PROGRAMS.items():
+        accepted = accounting(program, accepts, journal)
+        checks.that(accepted.returncode == 0, f"{program} accepts the journal: {accepted.stderr}")
+        held = balances(program, journal)
+        for (supplier, line), amount in terms.items():
+            account, sign = TERMS[line]
+            balance = held.get(account.replace("NN", f"{supplier:02}"), 0)
+            checks.that(sign * balance == amount, f"{program}: {line} of supplier {supplier}: {balance}, not {amount}")
+        for number, wrong in enumerate(wrong_figures(read(journal).decode())):
+            path = write(f"{folder}/wrong.journal", wrong.encode())
+            refused = accounting(program, accepts, path)
+            noticed = refused.returncode != 0 and "assertion" in refused.stderr
+            checks.that(noticed, f"{program} notices wrong figure {number}")
+    checks.end()
+
+
+main()
