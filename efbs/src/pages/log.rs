@@ -4,11 +4,11 @@ use super::show;
 use crate::amounts::{gas, grouped, money};
 use crate::entry::{Entry, Kind};
 use crate::failure::Failure;
-use crate::form::{Unit, Value};
+use crate::form::Value;
 use crate::movements::{Movement, Movements};
 use crate::replay::Step;
 use crate::words::{refusal, violation, violation_list};
-use nedrulov::{Account, Report, ACCOUNTS};
+use nedrulov::{Account, Report, ACCOUNTS, ENTRY_BYTES};
 use std::io::{self, Write};
 
 /// Which entries are shown.
@@ -41,45 +41,67 @@ fn uses(entry: &Entry, account: usize) -> bool {
 pub fn write(archive: &[u8], choice: Choice, out: &mut dyn Write) -> Result<(), Failure> {
     let mut movements = Movements::default();
     let (mut accepted, mut refused) = (0u64, 0u64);
+    let mut log = Log {
+        choice,
+        width: (archive.len() / ENTRY_BYTES).to_string().len(),
+        out,
+    };
     show(archive, |step| {
-        let effect = effect(step, &mut movements);
+        let moved = movements.of(step);
         match step.accepted() {
             true => accepted += 1,
             false => refused += 1,
         }
         match choice.shows(step) {
-            true => write_step(step, &effect, &choice, out),
+            true => log.write_step(step, &effect(step, &moved)),
             false => Ok(()),
         }
     })?;
-    let count = |number: u64| grouped(&number.to_string());
-    let all = count(accepted + refused);
-    writeln!(
-        out,
-        "{all} entries: {} accepted, {} refused",
-        count(accepted),
-        count(refused)
-    )?;
+    let [all, accepted, refused] =
+        [accepted + refused, accepted, refused].map(|number| grouped(&number.to_string()));
+    writeln!(out, "{all} entries: {accepted} accepted, {refused} refused")?;
     Ok(())
 }
 
-fn write_step(step: &Step, effect: &str, choice: &Choice, out: &mut dyn Write) -> io::Result<()> {
-    let answer = match step.answer.number {
-        0 => "accepted".to_string(),
-        number => format!("REFUSED {number}"),
-    };
-    let what = in_words(&step.entry);
-    writeln!(
-        out,
-        "{:>7}  {}  {answer:<10}  {what}{effect}",
-        step.index, step.entry.date
-    )?;
-    if step.accepted() && step.entry.kind.is_closing() {
-        for account in choice.accounts() {
-            write_closing(step, account, out)?;
+struct Log<'a> {
+    choice: Choice,
+    /// Of the entries' indices.
+    width: usize,
+    out: &'a mut dyn Write,
+}
+
+impl Log<'_> {
+    fn write_step(&mut self, step: &Step, effect: &str) -> io::Result<()> {
+        let (index, date, width) = (step.index, step.entry.date, self.width);
+        let answer = match step.answer.number {
+            0 => "accepted".to_string(),
+            number => format!("REFUSED {number}"),
+        };
+        let what = in_words(&step.entry);
+        writeln!(
+            self.out,
+            "{index:>width$}  {date}  {answer:<10}  {what}{effect}"
+        )?;
+        if step.accepted() && step.entry.kind.is_closing() {
+            for account in self.choice.accounts() {
+                self.write_closing(step, account)?;
+            }
+        }
+        Ok(())
+    }
+
+    /// An account's part of a closing, if it has one.
+    fn write_closing(&mut self, step: &Step, account: usize) -> io::Result<()> {
+        const DATE_AND_ANSWER: usize = 28;
+        let parts = closing_parts(step, account).join("; ");
+        match parts.is_empty() {
+            true => Ok(()),
+            false => {
+                let indent = self.width + DATE_AND_ANSWER;
+                writeln!(self.out, "{:indent$}account {account}: {parts}", "")
+            }
         }
     }
-    Ok(())
 }
 
 /// "deliver account 0: delivered 1,450.00 Dth, back-cast 1,260.00 Dth".
@@ -107,8 +129,7 @@ fn in_words(entry: &Entry) -> String {
 }
 
 /// What an entry that is no closing did, or why it was refused.
-fn effect(step: &Step, movements: &mut Movements) -> String {
-    let moved = movements.of(step);
+fn effect(step: &Step, moved: &[Movement]) -> String {
     if !step.accepted() {
         return format!("; {}", refusal(step.answer.number));
     }
@@ -152,16 +173,15 @@ fn capacity(account: &Account) -> String {
     format!("step {}, MDDQ {mddq} Dth, BCQ {bcq} Dth", account.step.k)
 }
 
-/// An account's part of a closing, if it has one.
-fn write_closing(step: &Step, account: usize, out: &mut dyn Write) -> io::Result<()> {
+/// What a closing did to an account; nothing if it only passed.
+fn closing_parts(step: &Step, account: usize) -> Vec<String> {
     let report = &step.answer.reports[account];
     let (before, after) = (
         &step.before.accounts[account],
         &step.after.accounts[account],
     );
-    let month = step.entry.kind == Kind::CloseMonth && after.opened;
     let mut parts = reported(report);
-    if month {
+    if step.entry.kind == Kind::CloseMonth && after.opened {
         let (bill, owed) = (grouped(&money(report.bill)), grouped(&money(after.owed)));
         parts.push(format!("bill ${bill}, owed ${owed}"));
     }
@@ -172,12 +192,10 @@ fn write_closing(step: &Step, account: usize, out: &mut dyn Write) -> io::Result
             capacity(after)
         ));
     }
-    if parts.is_empty() {
-        return Ok(());
+    if !parts.is_empty() {
+        parts.push(format!("bank {} Dth", grouped(&gas(after.bank))));
     }
-    parts.push(format!("bank {} Dth", grouped(&gas(after.bank))));
-    let name = Unit::Account.write(account as u32);
-    writeln!(out, "{:35}account {name}: {}", "", parts.join("; "))
+    parts
 }
 
 /// Violations, cash and forfeit.
