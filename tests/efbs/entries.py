@@ -52,13 +52,15 @@ def closing(day):
 
 
 def years(first, last, suppliers, draw):
-    """Every day from first to last, deliveries drawn at random around what keeps a bank level."""
+    """Every day from first to last, deliveries drawn at random around what keeps a bank level; each April other terms."""
     entries = [entry(first, TERMS, words=SOME_TERMS)]
     accounts = range(suppliers)
     mdq = [1_000 + 2_300 * account for account in accounts]
     entries += [entry(first, ENROL, account, flags=2, words=(mdq[account], 1_000)) for account in accounts]
     day = first
     while day <= last:
+        if (day.month, day.day) == (4, 1) and day > first:
+            entries.append(entry(day, TERMS, words=SOME_TERMS[:3] + (draw.randrange(300),) + SOME_TERMS[4:]))
         for account in accounts:
             load = 20 * mdq[account]
             delivered = load + draw.randrange(-load // 2, load // 2)

@@ -1,8 +1,8 @@
 """Archives to text and back: the sample, the archives of tests/panel and lists made at random."""
 
 import glob
-import os
 import random
+import re
 import sys
 
 import entries
@@ -42,15 +42,26 @@ def sample(checks, folder):
     checks.that([line for line in read(unpacked).split(b"\n") if line] == lines, "the sample's lines")
 
 
+def documented(checks, folder):
+    """The examples in docs/TEXT-FORMAT.md: a line of each kind, written as unpack writes it."""
+    text, packed = f"{folder}/documented.txt", f"{folder}/documented.efb"
+    lines = re.findall(r"(?m)^    (\d{4}-\d\d-\d\d .*)$", read("docs/TEXT-FORMAT.md").decode())
+    checks.that(len({line.split()[1] for line in lines}) == 9, "an example of each kind")
+    write(text, "\n".join(lines).encode())
+    checks.that(run("pack", text, "-o", packed)[0] == 0, "the examples pack")
+    unpacked = run("unpack", packed)[1].decode().split("\n")
+    checks.that([line for line in unpacked if line] == lines, "the examples are written as unpack writes them")
+
+
 def main():
     folder, checks = sys.argv[1], Checks("round trip")
     sample(checks, folder)
+    documented(checks, folder)
     panel_cases(checks, folder)
     draw = random.Random(32)
     for number in range(LISTS):
         made = [entries.any_entry(draw) for _ in range(draw.randrange(60))]
         same_bytes(checks, f"list {number}", entries.archive(made), folder)
-    os.remove(f"{folder}/a.efb")
     checks.end()
 
 
