@@ -169,12 +169,8 @@ fn panel(arguments: &Arguments, out: &mut dyn Write) -> Result<(), Failure> {
         writeln!(out, "archive {number} {index}")?;
         return Err(Refusal { number, index }.into());
     }
-    let line = [
-        figures.accepted.to_string(),
-        figures.refused.to_string(),
-        figures.figure.to_string(),
-    ];
-    Ok(writeln!(out, "{}", line.join(" "))?)
+    let (accepted, refused) = (figures.accepted, figures.refused);
+    Ok(writeln!(out, "{accepted} {refused} {}", figures.figure)?)
 }
 
 fn log(arguments: &Arguments, out: &mut dyn Write) -> Result<(), Failure> {
@@ -196,12 +192,8 @@ fn journal(arguments: &Arguments, out: &mut dyn Write) -> Result<(), Failure> {
 
 fn sheet(arguments: &Arguments, out: &mut dyn Write) -> Result<(), Failure> {
     let year = arguments.year(1)?;
-    pages::sheet::write(
-        &read_archive(arguments.path(0))?,
-        year,
-        arguments.has("--csv"),
-        out,
-    )
+    let archive = read_archive(arguments.path(0))?;
+    pages::sheet::write(&archive, year, arguments.has("--csv"), out)
 }
 
 fn write_report(arguments: &Arguments, out: &mut dyn Write) -> Result<(), Failure> {

@@ -2,7 +2,7 @@
 
 use crate::failure::Failure;
 use std::fs::{self, File};
-use std::io::{self, BufWriter, Read, Write};
+use std::io::{self, BufWriter, ErrorKind, Read, Write};
 use std::path::{Path, PathBuf};
 
 /// No archive is longer than one byte less; what follows cannot make it right.
@@ -51,19 +51,21 @@ pub fn to_file(
     path: &Path,
     write: impl FnOnce(Writer) -> Result<(), Failure>,
 ) -> Result<(), Failure> {
-    let unwritable = |failure| {
-        match failure {
-        Failure::Output(error) => Failure::Told(format!(
-            "{} cannot be written: {error}. Check that its folder is there, may be written and has room.",
-            path.display()
-        )),
-        other => other,
-    }
+    let written = match place(path) {
+        Some((temporary, real)) => write_beside(&temporary, &real, write),
+        None => write_into(path, write),
     };
-    match place(path) {
-        Some((temporary, real)) => write_beside(&temporary, &real, write).map_err(unwritable),
-        None => write_into(path, write).map_err(unwritable),
-    }
+    written.map_err(|failure| match failure {
+        Failure::Output(error) if error.kind() != ErrorKind::BrokenPipe => unwritable(path, error),
+        other => other,
+    })
+}
+
+fn unwritable(path: &Path, error: io::Error) -> Failure {
+    Failure::Told(format!(
+        "{} cannot be written: {error}. Check that its folder is there and has room.",
+        path.display()
+    ))
 }
 
 /// Where to write and what to rename it to; None where the path is a device, a pipe or a folder.

@@ -14,7 +14,8 @@ pub enum Cause {
     Sale,
     /// The company buys from the supplier.
     Purchase,
-    TransferFrom(usize),
+    TransferIn,
+    /// To the account named.
     TransferTo(usize),
     CashIn,
     CashOut,
@@ -83,7 +84,7 @@ fn posting(entry: &Entry, retainage: u64) -> Vec<Movement> {
             one(Cause::TransferTo(b), -units),
             Movement {
                 account: b,
-                cause: Cause::TransferFrom(a),
+                cause: Cause::TransferIn,
                 units,
             },
         ],
@@ -103,15 +104,12 @@ fn closing(step: &Step) -> Vec<Movement> {
             0 => None,
             units => Some((Cause::Forfeit, -(units as i64))),
         };
-        moved.extend(
-            cash.into_iter()
-                .chain(forfeit)
-                .map(|(cause, units)| Movement {
-                    account,
-                    cause,
-                    units,
-                }),
-        );
+        let of_account = |(cause, units)| Movement {
+            account,
+            cause,
+            units,
+        };
+        moved.extend(cash.into_iter().chain(forfeit).map(of_account));
     }
     moved
 }

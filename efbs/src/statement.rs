@@ -59,7 +59,7 @@ impl Statement {
             Cause::Delivery => self.deliveries += units,
             Cause::Sale => self.sales += units,
             Cause::Purchase => self.purchases -= units,
-            Cause::TransferFrom(_) => self.transfers_in += units,
+            Cause::TransferIn => self.transfers_in += units,
             Cause::TransferTo(_) => self.transfers_out -= units,
             Cause::CashIn => self.cash_ins += units,
             Cause::CashOut => self.cash_outs -= units,

@@ -52,7 +52,7 @@ def compare(path, renew, folder):
         with open(path, "w", encoding="utf-8") as file:
             file.write(now)
     elif now != stored:
-        lines = list(difflib.unified_diff(stored.split("\n"), now.split("\n"), path, "now", n=1, lineterm=""))
+        lines = list(difflib.unified_diff(stored.split("\n"), now.split("\n"), os.path.relpath(path), "now", n=1, lineterm=""))
         print("\n".join(lines[:40]), f"... {len(lines)} lines in all" if len(lines) > 40 else "", sep="\n")
     return now, renew or now == stored
 

@@ -21,18 +21,20 @@ commodity USD
 
 ";
 
-/// A supplier's own accounts, and the other sides of their transactions.
-const ACCOUNTS_OF_SUPPLIER: [&str; 10] = [
-    "supplier:NN:bank",
-    "supplier:NN:owed",
-    "openings:NN",
-    "deliveries:NN",
-    "company:sales:NN",
-    "company:purchases:NN",
-    "company:cash-ins:NN",
-    "company:cash-outs:NN",
-    "company:forfeits:NN",
-    "company:bills:NN",
+// NN stands for the supplier's number.
+const BANK: &str = "supplier:NN:bank";
+const OWED: &str = "supplier:NN:owed";
+const BILLS: &str = "company:bills:NN";
+
+/// What a movement between a bank and no other bank is called, and the account on its other side.
+const OTHER_SIDES: [(Cause, &str, &str); 7] = [
+    (Cause::Opening, "opening", "openings:NN"),
+    (Cause::Delivery, "delivery", "deliveries:NN"),
+    (Cause::Sale, "company sale", "company:sales:NN"),
+    (Cause::Purchase, "company purchase", "company:purchases:NN"),
+    (Cause::CashIn, "cash-in", "company:cash-ins:NN"),
+    (Cause::CashOut, "cash-out", "company:cash-outs:NN"),
+    (Cause::Forfeit, "forfeit", "company:forfeits:NN"),
 ];
 
 pub fn write(archive: &[u8], out: &mut dyn Write) -> Result<(), Failure> {
@@ -53,8 +55,8 @@ pub fn write(archive: &[u8], out: &mut dyn Write) -> Result<(), Failure> {
     Ok(())
 }
 
-fn bank(account: usize) -> String {
-    format!("supplier:{account:02}:bank")
+fn of_supplier(account: &str, number: usize) -> String {
+    account.replace("NN", &format!("{number:02}"))
 }
 
 fn write_movement(step: &Step, movement: Movement, out: &mut dyn Write) -> io::Result<()> {
@@ -63,34 +65,27 @@ fn write_movement(step: &Step, movement: Movement, out: &mut dyn Write) -> io::R
         cause,
         units,
     } = movement;
-    let (what, other) = match cause {
-        Cause::Opening => ("opening", format!("openings:{account:02}")),
-        Cause::Delivery => ("delivery", format!("deliveries:{account:02}")),
-        Cause::Sale => ("company sale", format!("company:sales:{account:02}")),
-        Cause::Purchase => (
-            "company purchase",
-            format!("company:purchases:{account:02}"),
-        ),
-        Cause::CashIn => ("cash-in", format!("company:cash-ins:{account:02}")),
-        Cause::CashOut => ("cash-out", format!("company:cash-outs:{account:02}")),
-        Cause::Forfeit => ("forfeit", format!("company:forfeits:{account:02}")),
-        Cause::TransferTo(receiver) => ("transfer", bank(receiver)),
-        // The giver's movement has written both sides.
-        Cause::TransferFrom(_) => return Ok(()),
-    };
     if cause == Cause::Opening {
         declare(account, out)?;
     }
+    let known = OTHER_SIDES.iter().find(|(known, ..)| *known == cause);
+    let (what, other) = match (cause, known) {
+        (_, Some((_, what, other))) => (*what, of_supplier(other, account)),
+        (Cause::TransferTo(receiver), _) => ("transfer", of_supplier(BANK, receiver)),
+        // The giver's movement has written both sides of a transfer.
+        _ => return Ok(()),
+    };
     head(step, what, out)?;
-    posting(&bank(account), &gas(units), "DTH", out)?;
+    posting(&of_supplier(BANK, account), &gas(units), "DTH", out)?;
     posting(&other, &gas(-units), "DTH", out)?;
     writeln!(out)
 }
 
-fn declare(account: usize, out: &mut dyn Write) -> io::Result<()> {
-    let number = format!("{account:02}");
-    for name in ACCOUNTS_OF_SUPPLIER {
-        writeln!(out, "account {}", name.replace("NN", &number))?;
+/// Names a supplier's accounts, for those who read journals strictly.
+fn declare(number: usize, out: &mut dyn Write) -> io::Result<()> {
+    let other_sides = OTHER_SIDES.iter().map(|(.., account)| *account);
+    for account in [BANK, OWED, BILLS].into_iter().chain(other_sides) {
+        writeln!(out, "account {}", of_supplier(account, number))?;
     }
     writeln!(out)
 }
@@ -98,18 +93,8 @@ fn declare(account: usize, out: &mut dyn Write) -> io::Result<()> {
 fn write_bills(step: &Step, movements: &Movements, out: &mut dyn Write) -> io::Result<()> {
     for (account, mills) in movements.bills(step) {
         head(step, "bill", out)?;
-        posting(
-            &format!("supplier:{account:02}:owed"),
-            &money(mills),
-            "USD",
-            out,
-        )?;
-        posting(
-            &format!("company:bills:{account:02}"),
-            &money(-mills),
-            "USD",
-            out,
-        )?;
+        posting(&of_supplier(OWED, account), &money(mills), "USD", out)?;
+        posting(&of_supplier(BILLS, account), &money(-mills), "USD", out)?;
         writeln!(out)?;
     }
     Ok(())
@@ -125,13 +110,8 @@ fn write_balances(step: &Step, movements: &Movements, out: &mut dyn Write) -> io
         let held = &step.after.accounts[account];
         let banked = format!("DTH = {} DTH", gas(held.bank));
         let owed = format!("USD = {} USD", money(held.owed));
-        posting(&bank(account), &gas(0), &banked, out)?;
-        posting(
-            &format!("supplier:{account:02}:owed"),
-            &money(0),
-            &owed,
-            out,
-        )?;
+        posting(&of_supplier(BANK, account), &gas(0), &banked, out)?;
+        posting(&of_supplier(OWED, account), &money(0), &owed, out)?;
     }
     writeln!(out)
 }

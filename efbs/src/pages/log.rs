@@ -92,6 +92,7 @@ impl Log<'_> {
 
     /// An account's part of a closing, if it has one.
     fn write_closing(&mut self, step: &Step, account: usize) -> io::Result<()> {
+        // Date and answer with the spaces around them, and two more to stand inward.
         const DATE_AND_ANSWER: usize = 28;
         let parts = closing_parts(step, account).join("; ");
         match parts.is_empty() {
@@ -108,11 +109,8 @@ impl Log<'_> {
 fn in_words(entry: &Entry) -> String {
     let form = entry.kind.form();
     let spoken = |value: &Value| {
-        format!(
-            "{} {}",
-            value.name,
-            value.unit.spoken(value.place.get(entry))
-        )
+        let number = value.unit.spoken(value.place.get(entry));
+        format!("{} {number}", value.name)
     };
     let mut words = form.word.to_string();
     for account in form.accounts {
@@ -133,7 +131,7 @@ fn effect(step: &Step, moved: &[Movement]) -> String {
     if !step.accepted() {
         return format!("; {}", refusal(step.answer.number));
     }
-    let after = &step.after.accounts[usize::from(step.entry.a) % ACCOUNTS];
+    let after = &step.after.accounts[usize::from(step.entry.a)];
     match step.entry.kind {
         Kind::Enrol => format!("; {}", capacity(after)),
         Kind::Measure => format!("; {}", step_in_words(after)),
@@ -163,7 +161,10 @@ fn step_in_words(account: &Account) -> String {
     let step = &account.step;
     match step.pending == step.k {
         true => format!("step {}", step.k),
-        false => format!("step {}, from the next month {}", step.k, step.pending),
+        false => format!(
+            "step {}, and {} from the next month on",
+            step.k, step.pending
+        ),
     }
 }
 
@@ -176,21 +177,15 @@ fn capacity(account: &Account) -> String {
 /// What a closing did to an account; nothing if it only passed.
 fn closing_parts(step: &Step, account: usize) -> Vec<String> {
     let report = &step.answer.reports[account];
-    let (before, after) = (
-        &step.before.accounts[account],
-        &step.after.accounts[account],
-    );
+    let [before, after] = [step.before, step.after].map(|ledger| &ledger.accounts[account]);
     let mut parts = reported(report);
     if step.entry.kind == Kind::CloseMonth && after.opened {
         let (bill, owed) = (grouped(&money(report.bill)), grouped(&money(after.owed)));
         parts.push(format!("bill ${bill}, owed ${owed}"));
     }
     if before.step.k != after.step.k {
-        parts.push(format!(
-            "from step {} to {}",
-            before.step.k,
-            capacity(after)
-        ));
+        let new = capacity(after);
+        parts.push(format!("from step {} to {new}", before.step.k));
     }
     if !parts.is_empty() {
         parts.push(format!("bank {} Dth", grouped(&gas(after.bank))));
