@@ -1,9 +1,12 @@
-"""The sample's journal read by hledger and by ledger: both accept it, find the statement's balances, and notice a wrong figure."""
+"""Journals read by hledger and by ledger: both accept them, find the statement's balances, and notice a wrong figure."""
 
+import random
 import re
 import subprocess
 import sys
+from datetime import date
 
+import entries
 from checks import Checks, read, run, write
 
 # A statement's line, and the account of the journal that must hold the same, with the sign that it has there.
@@ -65,22 +68,30 @@ def wrong_figures(journal):
         yield journal[:last] + digit + journal[last + 1:]
 
 
+def compare(checks, program, journal, terms):
+    """The program accepts the journal, and every term of the statement is a balance."""
+    accepted = accounting(program, PROGRAMS[program][0], journal)
+    checks.that(accepted.returncode == 0, f"{program} accepts {journal}: {accepted.stderr}")
+    held = balances(program, journal)
+    for (supplier, line), amount in terms.items():
+        account, sign = TERMS[line]
+        balance = held.get(account.replace("NN", f"{supplier:02}"), 0)
+        checks.that(sign * balance == amount, f"{program}, {journal}: {line} of supplier {supplier}: {balance}, not {amount}")
+
+
 def main():
-    folder, archive, checks = sys.argv[1], sys.argv[2], Checks("journal")
-    journal = write(f"{folder}/sample.journal", run("journal", archive)[1])
-    terms = statement_terms(archive)
-    checks.that(len(terms) == 4 * len(TERMS), "the statement has every term of four suppliers")
+    folder, sample, checks = sys.argv[1], sys.argv[2], Checks("journal")
+    made = entries.years(date(2026, 4, 1), date(2027, 12, 31), 16, random.Random(5))
+    many = write(f"{folder}/many.efb", entries.archive(made))
+    for archive, suppliers in ((sample, 4), (many, 16)):
+        journal = write(f"{archive}.journal", run("journal", archive)[1])
+        terms = statement_terms(archive)
+        checks.that(len(terms) == suppliers * len(TERMS), f"the statement of {archive} has every term of {suppliers} suppliers")
+        for program in PROGRAMS:
+            compare(checks, program, journal, terms)
     for program, (accepts, _) in PROGRAMS.items():
-        accepted = accounting(program, accepts, journal)
-        checks.that(accepted.returncode == 0, f"{program} accepts the journal: {accepted.stderr}")
-        held = balances(program, journal)
-        for (supplier, line), amount in terms.items():
-            account, sign = TERMS[line]
-            balance = held.get(account.replace("NN", f"{supplier:02}"), 0)
-            checks.that(sign * balance == amount, f"{program}: {line} of supplier {supplier}: {balance}, not {amount}")
-        for number, wrong in enumerate(wrong_figures(read(journal).decode())):
-            path = write(f"{folder}/wrong.journal", wrong.encode())
-            refused = accounting(program, accepts, path)
+        for number, wrong in enumerate(wrong_figures(read(f"{sample}.journal").decode())):
+            refused = accounting(program, accepts, write(f"{folder}/wrong.journal", wrong.encode()))
             noticed = refused.returncode != 0 and "assertion" in refused.stderr
             checks.that(noticed, f"{program} notices wrong figure {number}")
     checks.end()
