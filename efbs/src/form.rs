@@ -288,7 +288,7 @@ mod tests {
             for value in [0, 1, 15, 9_999, 1_000_000_000, u32::MAX] {
                 assert_eq!(unit.read(&unit.write(value)), Some(u64::from(value)));
             }
-            let (_, example) = unit.expected().rsplit_once(' ').unwrap();
+            let (_, example) = unit.expected().rsplit_once(' ').expect("words");
             assert!(unit.read(example).is_some(), "{example}");
         }
     }

@@ -10,8 +10,9 @@ const BEGINNING: &str = "\
 2026-04-01 enrol account=5 wants-efbs mdq=4200 opening=20.00
 ";
 
-/// Gas moves in every way that one day has; the last two are refused.
+/// Gas moves in every way that one day has. Refused: an entry of a later day, one of an account that is not open, terms.
 const FIRST_DAY: &str = "\
+2026-12-31 close-day
 2026-04-01 deliver account=2 delivered=10.00 back-cast=0.00
 2026-04-01 deliver account=5 delivered=0.00 back-cast=30.01
 2026-04-01 trade account=2 company-sells gas=7.00
@@ -29,6 +30,9 @@ const SECOND_DAY: &str = "\
 2026-04-02 deliver account=5 delivered=0.00 back-cast=0.00
 2026-04-02 close-day
 ";
+
+const NO_PRICES: &str =
+    "average-cost=0.000 highest-price=0.000 lowest-price=0.000 pipeline-charges=0.000";
 
 fn pack(texts: &[&str]) -> Vec<u8> {
     let list = efbs::text::read(texts.concat().as_bytes()).expect("the text is right");
@@ -101,28 +105,32 @@ fn retainage_is_that_of_the_accepted_terms() {
     assert_eq!(deliveries, [985 + 985, -2_955]);
 }
 
-#[test]
-fn bills_of_nothing_are_bills() {
+/// A whole April in which nothing is delivered.
+fn idle_april() -> String {
     let mut text = String::from(BEGINNING);
     for day in 1..=30 {
+        let date = format!("2026-04-{day:02}");
         for account in [2, 5] {
-            text += &format!(
-                "2026-04-{day:02} deliver account={account} delivered=0.00 back-cast=0.00\n"
-            );
-            if day == 27 {
-                text += &format!("2026-04-27 measure account={account} mdq=4200\n");
-            }
-            if day == 30 {
-                text += &format!("2026-04-30 usage account={account} consumed=9\n");
-            }
+            text += &format!("{date} deliver account={account} delivered=0.00 back-cast=0.00\n");
+            text += &match day {
+                27 => format!("{date} measure account={account} mdq=4200\n"),
+                30 => format!("{date} usage account={account} consumed=9\n"),
+                _ => String::new(),
+            };
         }
         text += &match day {
-            30 => "2026-04-30 close-month average-cost=0.000 highest-price=0.000 lowest-price=0.000 pipeline-charges=0.000\n".to_string(),
-            _ => format!("2026-04-{day:02} close-day\n"),
+            30 => format!("{date} close-month {NO_PRICES}\n"),
+            _ => format!("{date} close-day\n"),
         };
     }
-    let found = statements(&pack(&[&text]), None).expect("the archive is right");
+    text
+}
+
+#[test]
+fn bills_of_nothing_are_bills() {
+    let found = statements(&pack(&[&idle_april()]), None).expect("the archive is right");
     let date = "2026-04-30".parse().expect("a date");
+    assert_eq!(found.len(), 2);
     for statement in found {
         assert_eq!(statement.bills, [Bill { date, mills: 0 }]);
     }
