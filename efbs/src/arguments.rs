@@ -112,7 +112,7 @@ impl Arguments {
         self.read("--until", "a date, as 2026-04-01", read)
     }
 
-    pub fn year(&self, operand: usize) -> Result<u64, Failure> {
+    pub fn year(&self, operand: usize) -> Result<u16, Failure> {
         let text = self.operands[operand].to_string_lossy();
         let digits = text.len() == 4 && text.bytes().all(|b| b.is_ascii_digit());
         let year = text.parse().ok().filter(|_| digits);

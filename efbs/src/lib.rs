@@ -3,6 +3,7 @@
 pub mod amounts;
 pub mod archive;
 pub mod arguments;
+pub mod calendar;
 pub mod cli;
 pub mod command;
 pub mod entry;

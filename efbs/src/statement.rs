@@ -7,7 +7,7 @@ use crate::words::violation_list;
 use nedrulov::{Ledger, ACCOUNTS};
 
 /// The terms of one supplier's bank, added up from entries and answers (never read from the ledger).
-/// Every term is a size; `sum` takes away what left the bank. Only deliveries, being net, have a sign.
+/// Every term is a size; `terms` takes away what left the bank. Only deliveries, being net, have a sign.
 #[derive(Clone, Debug, Default, PartialEq, Eq)]
 pub struct Statement {
     pub account: usize,
@@ -37,10 +37,26 @@ pub struct Bill {
 }
 
 impl Statement {
+    /// The terms by name, in units. What leaves the bank is negative, so that they add up.
+    pub fn terms(&self) -> [(&'static str, i64); 9] {
+        [
+            ("opening", self.opening),
+            (
+                "deliveries less back-casts, after retainage",
+                self.deliveries,
+            ),
+            ("company sales to it", self.sales),
+            ("company purchases from it", -self.purchases),
+            ("transfers in", self.transfers_in),
+            ("transfers out", -self.transfers_out),
+            ("cash-ins", self.cash_ins),
+            ("cash-outs", -self.cash_outs),
+            ("forfeits", -self.forfeits),
+        ]
+    }
+
     pub fn sum(&self) -> i64 {
-        let into = self.opening + self.deliveries + self.sales + self.transfers_in + self.cash_ins;
-        let out = self.purchases + self.transfers_out + self.cash_outs + self.forfeits;
-        into - out
+        self.terms().iter().map(|(_, units)| units).sum()
     }
 
     pub fn owed_sum(&self) -> i64 {
@@ -108,14 +124,15 @@ pub fn books(archive: &[u8], until: Option<Day>) -> Result<Books, Refusal> {
     })
 }
 
+/// What the steps of a replay add up to.
 #[derive(Default)]
-struct Sums {
+pub struct Sums {
     movements: Movements,
     accounts: [Statement; ACCOUNTS],
 }
 
 impl Sums {
-    fn add(&mut self, step: &Step) {
+    pub fn add(&mut self, step: &Step) {
         for movement in self.movements.of(step) {
             self.accounts[movement.account].add(movement);
         }
@@ -128,7 +145,8 @@ impl Sums {
         }
     }
 
-    fn statements(self, ledger: &Ledger) -> Vec<Statement> {
+    /// Beside the ledger that the steps came to.
+    pub fn statements(self, ledger: &Ledger) -> Vec<Statement> {
         let beside_ledger = |account: usize| {
             let held = &ledger.accounts[account];
             Statement {

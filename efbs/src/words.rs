@@ -45,6 +45,11 @@ pub fn violation(v: usize) -> &'static str {
     }
 }
 
+/// "V7 bank below zero".
+pub fn numbered_violation(v: usize) -> String {
+    format!("V{v} {}", violation(v))
+}
+
 /// The v in a mask, in order: V1 is 1, V2 is 2, up to V8 128.
 pub fn violation_list(mask: u64) -> Vec<usize> {
     (1..=8).filter(|v| mask >> (v - 1) & 1 == 1).collect()

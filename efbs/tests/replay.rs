@@ -1,15 +1,10 @@
 //! Replaying the sample year, and archives that are refused.
 
-use efbs::archive::of_list;
+mod common;
+
+use common::sample;
 use efbs::replay::{replay, replay_while, Refusal};
 use std::ops::ControlFlow;
-
-const SAMPLE: &str = include_str!("../../samples/gas-year.txt");
-
-fn sample() -> Vec<u8> {
-    let list = efbs::text::read(SAMPLE.as_bytes()).expect("the sample is right");
-    of_list(&list).expect("the sample fits")
-}
 
 #[test]
 fn steps_join() {

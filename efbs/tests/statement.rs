@@ -1,6 +1,8 @@
 //! Statements of small lists, worked out by hand.
 
-use efbs::archive::of_list;
+mod common;
+
+use common::pack;
 use efbs::entry::Day;
 use efbs::statement::{statements, Bill, Statement};
 
@@ -33,11 +35,6 @@ const SECOND_DAY: &str = "\
 
 const NO_PRICES: &str =
     "average-cost=0.000 highest-price=0.000 lowest-price=0.000 pipeline-charges=0.000";
-
-fn pack(texts: &[&str]) -> Vec<u8> {
-    let list = efbs::text::read(texts.concat().as_bytes()).expect("the text is right");
-    of_list(&list).expect("the list fits")
-}
 
 fn day(text: &str) -> Option<Day> {
     Some(text.parse().expect("a date"))
@@ -72,7 +69,7 @@ fn after_first_day() -> Vec<Statement> {
 
 #[test]
 fn one_day() {
-    let found = statements(&pack(&[BEGINNING, FIRST_DAY]), None);
+    let found = statements(&pack(&[BEGINNING, FIRST_DAY].concat()), None);
     assert_eq!(found, Ok(after_first_day()));
 }
 
@@ -86,7 +83,7 @@ fn sums() {
 
 #[test]
 fn until_a_day() {
-    let archive = pack(&[BEGINNING, FIRST_DAY, SECOND_DAY]);
+    let archive = pack(&[BEGINNING, FIRST_DAY, SECOND_DAY].concat());
     assert_eq!(
         statements(&archive, day("2026-04-01")),
         Ok(after_first_day())
@@ -100,7 +97,7 @@ fn until_a_day() {
 
 #[test]
 fn retainage_is_that_of_the_accepted_terms() {
-    let found = statements(&pack(&[BEGINNING, FIRST_DAY, SECOND_DAY]), None);
+    let found = statements(&pack(&[BEGINNING, FIRST_DAY, SECOND_DAY].concat()), None);
     let deliveries: Vec<i64> = found.into_iter().flatten().map(|s| s.deliveries).collect();
     assert_eq!(deliveries, [985 + 985, -2_955]);
 }
@@ -128,7 +125,7 @@ fn idle_april() -> String {
 
 #[test]
 fn bills_of_nothing_are_bills() {
-    let found = statements(&pack(&[&idle_april()]), None).expect("the archive is right");
+    let found = statements(&pack(&idle_april()), None).expect("the archive is right");
     let date = "2026-04-30".parse().expect("a date");
     assert_eq!(found.len(), 2);
     for statement in found {

@@ -1,6 +1,7 @@
 """What the tests of efbs share: running it, and counting what was held."""
 
 import os
+import re
 import subprocess
 import sys
 
@@ -24,6 +25,19 @@ def write(path, content):
 def read(path):
     with open(path, "rb") as file:
         return file.read()
+
+
+def statement_rows(archive):
+    """Supplier to the rows of its statement, each a name and an amount as printed."""
+    found, supplier = {}, None
+    for line in run("statement", archive)[1].decode().split("\n"):
+        title = re.fullmatch(r"SUPPLIER (\d+)", line)
+        row = re.fullmatch(r"    (\S.*?)\s{2,}(-?[\d,.]+)(  agrees)?", line)
+        if title or line == "ALL SUPPLIERS":
+            supplier = title and int(title[1])
+        elif row and supplier is not None:
+            found.setdefault(supplier, []).append((row[1], row[2]))
+    return found
 
 
 class Checks:

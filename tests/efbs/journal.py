@@ -7,7 +7,7 @@ import sys
 from datetime import date
 
 import entries
-from checks import Checks, read, run, write
+from checks import Checks, read, run, statement_rows, write
 
 # A statement's line, and the account of the journal that must hold the same, with the sign that it has there.
 TERMS = {
@@ -47,15 +47,8 @@ def balances(program, journal):
 
 def statement_terms(archive):
     """(supplier, line) to amount, in thousandths."""
-    found, supplier = {}, None
-    for line in run("statement", archive)[1].decode().split("\n"):
-        title = re.fullmatch(r"SUPPLIER (\d+)", line)
-        row = re.fullmatch(r"    (\S.*?)\s{2,}(-?[\d,.]+)(  agrees)?", line)
-        if title or line == "ALL SUPPLIERS":
-            supplier = title and int(title[1])
-        elif row and supplier is not None and row[1] in TERMS:
-            found[supplier, row[1]] = thousandths(row[2])
-    return found
+    every = ((supplier, name, amount) for supplier, rows in statement_rows(archive).items() for name, amount in rows)
+    return {(supplier, name): thousandths(amount) for supplier, name, amount in every if name in TERMS}
 
 
 def wrong_figures(journal):

@@ -34,6 +34,9 @@ def main():
             checks.that(out.split()[:2] == [str(len(made)).encode(), b"0"], "every entry is accepted")
         if command[0] == "statement":
             checks.that(out.count(b"agrees\n") == 3 * 16 + 1 and b"DIFFERS" not in out, "every sum agrees")
+        if command[0] == "report":
+            checks.that(out.count(b"<path class=\"bank\" d=\"M") == 16 + 1, "a chart for every supplier, and the legend's line")
+            checks.that(out.count(b"sums and ledger agree") == 16, "every statement of the report agrees")
     checks.that(read(again) == packed, "the archive comes back byte for byte")
     checks.end(f"; {len(packed):,} bytes: " + ", ".join(times))
 

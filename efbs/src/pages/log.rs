@@ -7,7 +7,7 @@ use crate::failure::Failure;
 use crate::form::Value;
 use crate::movements::{Movement, Movements};
 use crate::replay::Step;
-use crate::words::{refusal, violation, violation_list};
+use crate::words::{numbered_violation, refusal, violation_list};
 use nedrulov::{Account, Report, ACCOUNTS, ENTRY_BYTES};
 use std::io::{self, Write};
 
@@ -196,7 +196,7 @@ fn closing_parts(step: &Step, account: usize) -> Vec<String> {
 /// Violations, cash and forfeit.
 fn reported(report: &Report) -> Vec<String> {
     let violated = violation_list(report.mask).into_iter();
-    let mut parts: Vec<String> = violated.map(|v| format!("V{v} {}", violation(v))).collect();
+    let mut parts: Vec<String> = violated.map(numbered_violation).collect();
     let dth = |units: i64| grouped(&gas(units));
     match report.cash {
         0 => {}

@@ -1,6 +1,7 @@
 //! The year sheet: banks after each month's closing.
 
 use crate::amounts::{gas, grouped};
+use crate::calendar::{months, year_after};
 use crate::failure::Failure;
 use crate::movements::Movements;
 use crate::replay::{replay, Refusal};
@@ -10,11 +11,11 @@ use std::io::{self, Write};
 
 /// A gas year's banks of the accounts that the archive ever enrolls.
 struct Sheet {
-    year: u64,
+    year: u16,
     rows: Vec<(usize, [i64; MONTHS])>,
 }
 
-pub fn write(archive: &[u8], year: u64, csv: bool, out: &mut dyn Write) -> Result<(), Failure> {
+pub fn write(archive: &[u8], year: u16, csv: bool, out: &mut dyn Write) -> Result<(), Failure> {
     let sheet = sheet(archive, year)?;
     match csv {
         true => write_csv(&sheet, out)?,
@@ -23,12 +24,12 @@ pub fn write(archive: &[u8], year: u64, csv: bool, out: &mut dyn Write) -> Resul
     Ok(())
 }
 
-fn sheet(archive: &[u8], year: u64) -> Result<Sheet, Refusal> {
+fn sheet(archive: &[u8], year: u16) -> Result<Sheet, Refusal> {
     let mut movements = Movements::default();
     replay(archive, |step| {
         movements.of(step);
     })?;
-    let banks = nedrulov::year_sheet(archive, year);
+    let banks = nedrulov::year_sheet(archive, year.into());
     let rows = movements
         .enrolled()
         .map(|account| (account, banks[account]));
@@ -38,16 +39,9 @@ fn sheet(archive: &[u8], year: u64) -> Result<Sheet, Refusal> {
     })
 }
 
-/// Calendar year and month of the sheet's columns, April first.
-fn months(year: u64) -> impl Iterator<Item = (u64, u8)> {
-    (4..=12)
-        .map(move |month| (year, month))
-        .chain((1..=3).map(move |month| (year + 1, month)))
-}
-
 fn write_csv(sheet: &Sheet, out: &mut dyn Write) -> io::Result<()> {
     let names = months(sheet.year).map(|(year, month)| format!(",{year:04}-{month:02}"));
-    writeln!(out, "account{}", names.collect::<String>())?;
+    writeln!(out, "account{}", names.concat())?;
     for (account, banks) in &sheet.rows {
         let cells: String = banks
             .iter()
@@ -59,13 +53,13 @@ fn write_csv(sheet: &Sheet, out: &mut dyn Write) -> io::Result<()> {
 }
 
 fn write_table(sheet: &Sheet, out: &mut dyn Write) -> io::Result<()> {
-    let (year, next) = (sheet.year, sheet.year + 1);
+    let (year, next) = (sheet.year, year_after(sheet.year));
     writeln!(
         out,
         "Banks in Dth after each month's closing, April {year} to March {next}\n"
     )?;
     let names = months(year).map(|(_, month)| month_name(month).to_string());
-    let mut lines = vec![("account".to_string(), names.collect::<Vec<_>>())];
+    let mut lines = vec![("account".to_string(), names.to_vec())];
     for (account, banks) in &sheet.rows {
         let cells = banks.iter().map(|bank| grouped(&gas(*bank)));
         lines.push((account.to_string(), cells.collect()));

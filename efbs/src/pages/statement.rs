@@ -4,7 +4,7 @@ use crate::amounts::{gas, grouped, money};
 use crate::entry::Day;
 use crate::failure::Failure;
 use crate::statement::{books, Books, Statement};
-use crate::words::violation;
+use crate::words::numbered_violation;
 use std::io::Write;
 
 pub fn write(
@@ -61,18 +61,8 @@ fn page(statement: &Statement) -> String {
 }
 
 fn bank(s: &Statement) -> String {
-    let terms = [
-        ("opening", s.opening),
-        ("deliveries less back-casts, after retainage", s.deliveries),
-        ("company sales to it", s.sales),
-        ("company purchases from it", -s.purchases),
-        ("transfers in", s.transfers_in),
-        ("transfers out", -s.transfers_out),
-        ("cash-ins", s.cash_ins),
-        ("cash-outs", -s.cash_outs),
-        ("forfeits", -s.forfeits),
-    ];
-    let rows: String = terms
+    let rows: String = s
+        .terms()
         .iter()
         .map(|(name, units)| row(name, &gas(*units)))
         .collect();
@@ -94,7 +84,7 @@ fn bills(s: &Statement) -> String {
 fn violations(s: &Statement) -> String {
     let reported = (1..).zip(s.violations).filter(|(_, days)| *days > 0);
     let rows: String = reported
-        .map(|(v, days)| row(&format!("V{v} {}", violation(v)), &days.to_string()))
+        .map(|(v, days)| row(&numbered_violation(v), &days.to_string()))
         .collect();
     let days = [s.violation_days, s.days].map(|days| days.to_string());
     let sums = compared(
