@@ -1,11 +1,17 @@
 //! An archive and the list of entries in it.
 
 use crate::entry::Kind;
-use crate::replay::Refusal;
 use nedrulov::ENTRY_BYTES;
 
 const HEADER: usize = 8;
 const PAIR: usize = 8;
+
+/// Why the library refuses an archive or a list, and at which entry.
+#[derive(Clone, Copy, Debug, PartialEq, Eq)]
+pub struct Refusal {
+    pub number: u64,
+    pub index: usize,
+}
 
 /// The entries of an archive in file order, each as its bytes.
 pub fn entries(archive: &[u8]) -> Result<impl Iterator<Item = &[u8; ENTRY_BYTES]>, Refusal> {

@@ -1,10 +1,10 @@
 //! From the words of the command line to an exit status: 0 done, 1 refused or failed, 2 asked for in a wrong way.
 
+use crate::archive::Refusal;
 use crate::arguments::{Arguments, Opt};
 use crate::command::{Command, COMMANDS};
 use crate::failure::Failure;
 use crate::files;
-use crate::replay::Refusal;
 use crate::words::refusal;
 use std::ffi::{OsStr, OsString};
 use std::io::{self, ErrorKind, Write};

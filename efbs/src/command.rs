@@ -1,11 +1,10 @@
 //! The commands: their names, what they take, what they do.
 
-use crate::archive::{self, entries};
+use crate::archive::{self, entries, Refusal};
 use crate::arguments::{Arguments, Opt};
 use crate::failure::Failure;
 use crate::files::{self, read_archive};
 use crate::pages;
-use crate::replay::Refusal;
 use crate::report::report;
 use crate::text;
 use std::io::{BufReader, Write};

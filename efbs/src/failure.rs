@@ -1,6 +1,6 @@
 //! Why a command ends without having done its work.
 
-use crate::replay::Refusal;
+use crate::archive::Refusal;
 use std::io;
 
 pub enum Failure {

@@ -1,17 +1,10 @@
 //! An archive's entries posted, in file order, to a fresh ledger.
 
-use crate::archive::entries;
+use crate::archive::{entries, Refusal};
 use crate::entry::Entry;
 use nedrulov::{Answer, Ledger};
 use std::convert::Infallible;
 use std::ops::ControlFlow;
-
-/// Of an archive, by `nedrulov::check`.
-#[derive(Clone, Copy, Debug, PartialEq, Eq)]
-pub struct Refusal {
-    pub number: u64,
-    pub index: usize,
-}
 
 pub struct Step<'a> {
     pub index: usize,

@@ -17,7 +17,8 @@ mod statements;
 mod suppliers;
 mod year_sheet;
 
-use crate::replay::{replay, Refusal};
+use crate::archive::Refusal;
+use crate::replay::replay;
 use crate::statement::Sums;
 use gas_year::GasYear;
 

@@ -1,8 +1,9 @@
 //! The statement of a supplier: its bank, its debt and its violation days, added up from entries and answers.
 
+use crate::archive::Refusal;
 use crate::entry::Day;
 use crate::movements::{Cause, Movement, Movements};
-use crate::replay::{replay, Refusal, Step};
+use crate::replay::{replay, Step};
 use crate::words::violation_list;
 use nedrulov::{Ledger, ACCOUNTS};
 

@@ -3,7 +3,8 @@
 mod common;
 
 use common::sample;
-use efbs::replay::{replay, replay_while, Refusal};
+use efbs::archive::Refusal;
+use efbs::replay::{replay, replay_while};
 use std::ops::ControlFlow;
 
 #[test]

@@ -1,10 +1,11 @@
 //! The year sheet: banks after each month's closing.
 
 use crate::amounts::{gas, grouped};
+use crate::archive::Refusal;
 use crate::calendar::{months, year_after};
 use crate::failure::Failure;
 use crate::movements::Movements;
-use crate::replay::{replay, Refusal};
+use crate::replay::replay;
 use crate::words::month_name;
 use nedrulov::MONTHS;
 use std::io::{self, Write};

@@ -3,7 +3,7 @@
 use crate::archives::{page, pages, EMPTY, SAMPLE_YEAR};
 use crate::common::sample;
 use crate::reading::charts;
-use efbs::replay::Refusal;
+use efbs::archive::Refusal;
 use efbs::report::report;
 
 /// The names of tags that are opened and never closed, or closed in the wrong order.
