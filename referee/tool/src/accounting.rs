@@ -1,68 +1,83 @@
 //! The race against programs for plain-text accounting: a track's movements as a journal, added up by ledger and hledger.
 
-use crate::race::{shorten, Times, Track};
+use crate::race::{shorten, Track};
 use std::fs::{self, File};
 use std::io::{BufWriter, Write};
 use std::path::PathBuf;
 use std::process::{Command, Stdio};
-use std::time::Duration;
+use std::time::{Duration, Instant};
 
 const PROGRAMS: [&str; 2] = ["ledger", "hledger"];
-const REPETITIONS: usize = 5;
+const REPETITIONS: usize = 7;
 /// After so long no further repetition begins.
-const ENOUGH: Duration = Duration::from_secs(10);
+const ENOUGH: Duration = Duration::from_secs(40);
 /// A track on which a program would take longer is left out.
 const PATIENCE: Duration = Duration::from_secs(60);
 
-/// A program's best time on each track; none where it was left out.
-struct Runner {
-    name: &'static str,
-    version: Option<String>,
-    best: Vec<Option<Duration>>,
+/// The best times on one track; none of a program that was left out.
+struct Lap {
+    entries: f64,
+    journal_bytes: u64,
+    library: Duration,
+    programs: [Option<Duration>; 2],
 }
 
-pub fn run(tracks: &[Track], times: &[Times]) {
-    let mut runners = PROGRAMS.map(|name| Runner {
-        name,
-        version: version(name),
-        best: Vec::new(),
-    });
-    print_head(&runners);
-    let mut sizes = Vec::new();
-    for (place, track) in tracks.iter().enumerate() {
-        let journal = Journal::of(track);
-        for runner in &mut runners {
-            let best = runner
-                .races(&tracks[..=place])
-                .then(|| journal.time(runner.name));
-            runner.best.push(best);
+pub fn run(tracks: &[Track]) {
+    print_head();
+    let mut racing = PROGRAMS.map(is_installed);
+    println!("suppliers years  entries    journal, bytes      library     ledger    hledger   ratio ledger  ratio hledger");
+    let mut last: Option<Lap> = None;
+    for track in tracks {
+        if let Some(last) = &last {
+            racing = std::array::from_fn(|place| last.is_bearable(place, track));
         }
-        sizes.push(journal.bytes());
-    }
-    for (place, (track, times)) in tracks.iter().zip(times).enumerate() {
-        print_line(track, sizes[place], times, &runners, place);
+        let lap = measure(track, racing);
+        print_lap(track, &lap);
+        last = Some(lap);
     }
 }
 
-impl Runner {
-    /// Whether the program is there, and fast enough for the last track by how it did on the one before.
-    fn races(&self, tracks: &[Track]) -> bool {
-        let expected = match (tracks, self.best.last()) {
-            ([.., before, next], Some(Some(time))) => {
-                time.mul_f64(next.entries() as f64 / before.entries() as f64)
+impl Lap {
+    /// Whether a program that took part here would end in time on a further track.
+    fn is_bearable(&self, program: usize, track: &Track) -> bool {
+        let growth = track.entries() as f64 / self.entries;
+        self.programs[program].is_some_and(|time| time.mul_f64(growth) <= PATIENCE)
+    }
+}
+
+/// Says of a program what it says of itself, or that it is not there.
+fn is_installed(program: &str) -> bool {
+    let told = Command::new(program).arg("--version").output();
+    let text = told.map(|told| String::from_utf8_lossy(&told.stdout).into_owned());
+    match &text {
+        Ok(text) => println!("{program}: {}", text.lines().next().unwrap_or("")),
+        Err(_) => println!("{program} is not installed and left out"),
+    }
+    text.is_ok()
+}
+
+/// Takes turns, so that a busy moment of the machine does not fall on one runner alone.
+fn measure(track: &Track, racing: [bool; 2]) -> Lap {
+    let journal = Journal::of(track);
+    let mut lap = Lap {
+        entries: track.entries() as f64,
+        journal_bytes: journal.bytes(),
+        library: Duration::MAX,
+        programs: racing.map(|races| races.then_some(Duration::MAX)),
+    };
+    let start = Instant::now();
+    for _ in 0..REPETITIONS {
+        if start.elapsed() >= ENOUGH {
+            break;
+        }
+        shorten(&mut lap.library, || nedrulov::figures(&track.archive));
+        for (program, best) in PROGRAMS.iter().zip(&mut lap.programs) {
+            if let Some(best) = best {
+                shorten(best, || journal.balance(program));
             }
-            (_, Some(None)) => Duration::MAX,
-            _ => Duration::ZERO,
-        };
-        self.version.is_some() && expected <= PATIENCE
+        }
     }
-}
-
-/// The first line that a program says of itself; none if it is not installed.
-fn version(program: &str) -> Option<String> {
-    let told = Command::new(program).arg("--version").output().ok()?;
-    let text = String::from_utf8_lossy(&told.stdout).into_owned();
-    text.lines().next().map(String::from)
+    lap
 }
 
 /// A temporary file with the journal of a track.
@@ -86,21 +101,7 @@ impl Journal {
         fs::metadata(&self.0).map_or(0, |about| about.len())
     }
 
-    /// The best time of `PROGRAM -f FILE balance`, from start to exit.
-    fn time(&self, program: &str) -> Duration {
-        let (mut best, mut spent) = (Duration::MAX, Duration::ZERO);
-        for _ in 0..REPETITIONS {
-            if spent >= ENOUGH {
-                break;
-            }
-            let mut last = Duration::MAX;
-            shorten(&mut last, || self.balance(program));
-            spent += last;
-            best = best.min(last);
-        }
-        best
-    }
-
+    /// Adds the journal up, from the program's start to its end.
     fn balance(&self, program: &str) {
         let mut command = Command::new(program);
         command.arg("-f").arg(&self.0).arg("balance");
@@ -119,50 +120,33 @@ impl Drop for Journal {
     }
 }
 
-fn print_head(runners: &[Runner]) {
-    println!("\njournals, entries per second");
-    println!("Compared are unlike works on the same movements. The library replays the archive's bytes in this process and");
-    println!("checks every rule. ledger and hledger are started, parse a journal (efbs journal), check its balance assertions,");
-    println!("two of each supplier and month, and print balances; they know no rule. A ratio is a program's time over the");
-    println!("library's. Best of {REPETITIONS} runs, of fewer where they take more than {} seconds together.", ENOUGH.as_secs());
-    for runner in runners {
-        match &runner.version {
-            Some(version) => println!("{}: {version}", runner.name),
-            None => println!("{} is not installed and left out", runner.name),
-        }
-    }
-    println!("suppliers years  entries    journal, bytes      library     ledger    hledger   ratio ledger  ratio hledger");
+fn print_head() {
+    println!(
+        "
+journals, entries per second
+Compared are unlike works on the same movements. The library replays the archive's bytes in this process and checks
+every rule. ledger and hledger are started, parse a journal (efbs journal), check its balance assertions, two of each
+supplier and month, and print balances; they know no rule. A ratio is a program's time over the library's. Best of
+{REPETITIONS}, of fewer where all take more than {} seconds.",
+        ENOUGH.as_secs()
+    );
 }
 
-fn print_line(track: &Track, bytes: u64, times: &Times, runners: &[Runner], place: usize) {
-    let (entries, library) = (track.entries() as f64, times.replay[0].as_secs_f64());
+fn print_lap(track: &Track, lap: &Lap) {
     let shown = |number: Option<f64>, places: usize| match number {
         Some(number) => format!("{number:.places$}"),
         None => "left out".to_string(),
     };
-    let seconds = |runner: &Runner| runner.best[place].map(|time| time.as_secs_f64());
-    let speeds: String = runners
-        .iter()
-        .map(|runner| {
-            format!(
-                " {:>10}",
-                shown(seconds(runner).map(|time| entries / time), 0)
-            )
-        })
-        .collect();
-    let ratios: String = runners
-        .iter()
-        .map(|runner| {
-            format!(
-                " {:>14}",
-                shown(seconds(runner).map(|time| time / library), 1)
-            )
-        })
-        .collect();
+    let library = lap.library.as_secs_f64();
+    let seconds = lap.programs.map(|time| time.map(|time| time.as_secs_f64()));
+    let [ledger, hledger] = seconds.map(|time| shown(time.map(|time| lap.entries / time), 0));
+    let [to_ledger, to_hledger] = seconds.map(|time| shown(time.map(|time| time / library), 1));
     println!(
-        "{:>9} {:>5} {entries:>8} {bytes:>17} {:>12.0}{speeds}{ratios}",
+        "{:>9} {:>5} {:>8} {:>17} {:>12.0} {ledger:>10} {hledger:>10} {to_ledger:>14} {to_hledger:>14}",
         track.suppliers,
         track.years,
-        entries / library
+        lap.entries,
+        lap.journal_bytes,
+        lap.entries / library
     );
 }

@@ -27,13 +27,12 @@ impl Track {
 }
 
 /// The best times of one track.
-pub struct Times {
+struct Times {
     by_value: Duration,
     lent: Duration,
     referee: Duration,
     check: [Duration; 2],
-    /// The library's, then the referee's.
-    pub replay: [Duration; 2],
+    replay: [Duration; 2],
 }
 
 pub fn run() {
@@ -56,7 +55,7 @@ pub fn run() {
     let times: Vec<Times> = tracks.iter().map(measure).collect();
     print_postings(&tracks, &times);
     print_archives(&tracks, &times);
-    accounting::run(&tracks, &times);
+    accounting::run(&tracks);
 }
 
 fn track(suppliers: u8, years: usize) -> Track {
