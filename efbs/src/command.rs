@@ -85,7 +85,7 @@ const LOG: Command = Command {
     help: "\
 A line has the entry's index in the archive, counted from 0, its date, the answer and the entry; a closing is followed
 by what it reported of each account concerned.
-  --account N   entries that use account N, and its part of the closings
+  --account N   entries that use account N, and its part of the closings; no other account's bank
   --refused     refused entries only",
     run: log,
 };

@@ -14,7 +14,8 @@ use std::io::{self, Write};
 /// Which entries are shown.
 #[derive(Clone, Copy, Default)]
 pub struct Choice {
-    /// Those that use the account, and its part of the closings.
+    /// Those that use the account, and its part of them: its supplier may be handed the log, and what is in another's
+    /// bank is not for it.
     pub account: Option<usize>,
     /// Those that were refused.
     pub refused: bool,
@@ -53,7 +54,7 @@ pub fn write(archive: &[u8], choice: Choice, out: &mut dyn Write) -> Result<(), 
             false => refused += 1,
         }
         match choice.shows(step) {
-            true => log.write_step(step, &effect(step, &moved)),
+            true => log.write_step(step, &moved),
             false => Ok(()),
         }
     })?;
@@ -71,13 +72,14 @@ struct Log<'a> {
 }
 
 impl Log<'_> {
-    fn write_step(&mut self, step: &Step, effect: &str) -> io::Result<()> {
+    fn write_step(&mut self, step: &Step, moved: &[Movement]) -> io::Result<()> {
         let (index, date, width) = (step.index, step.entry.date, self.width);
         let answer = match step.answer.number {
             0 => "accepted".to_string(),
             number => format!("REFUSED {number}"),
         };
         let what = in_words(&step.entry);
+        let effect = effect(step, moved, self.choice);
         writeln!(
             self.out,
             "{index:>width$}  {date}  {answer:<10}  {what}{effect}"
@@ -127,7 +129,7 @@ fn in_words(entry: &Entry) -> String {
 }
 
 /// What an entry that is no closing did, or why it was refused.
-fn effect(step: &Step, moved: &[Movement]) -> String {
+fn effect(step: &Step, moved: &[Movement], choice: Choice) -> String {
     if !step.accepted() {
         return format!("; {}", refusal(step.answer.number));
     }
@@ -137,6 +139,7 @@ fn effect(step: &Step, moved: &[Movement]) -> String {
         Kind::Measure => format!("; {}", step_in_words(after)),
         Kind::Deliver | Kind::Trade | Kind::Transfer => moved
             .iter()
+            .filter(|movement| choice.accounts().contains(&movement.account))
             .map(|movement| {
                 let bank = step.after.accounts[movement.account].bank;
                 format!("; {}", moved_in_words(movement, bank))
