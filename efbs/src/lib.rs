@@ -15,6 +15,7 @@ pub mod pages;
 pub mod pending;
 pub mod replay;
 pub mod report;
+pub mod shown;
 pub mod statement;
 pub mod text;
 pub mod words;

@@ -3,7 +3,7 @@
 use crate::entry::{Entry, Kind};
 use crate::pending::retained;
 use crate::replay::Step;
-use nedrulov::ACCOUNTS;
+use nedrulov::{Report, ACCOUNTS};
 
 /// Why gas comes into a bank or leaves it.
 #[derive(Clone, Copy, Debug, PartialEq, Eq)]
@@ -20,6 +20,21 @@ pub enum Cause {
     CashIn,
     CashOut,
     Forfeit,
+}
+
+impl Cause {
+    pub fn name(self) -> &'static str {
+        match self {
+            Cause::Opening => "opening",
+            Cause::Delivery => "delivery",
+            Cause::Sale => "company sale",
+            Cause::Purchase => "company purchase",
+            Cause::TransferIn | Cause::TransferTo(_) => "transfer",
+            Cause::CashIn => "cash-in",
+            Cause::CashOut => "cash-out",
+            Cause::Forfeit => "forfeit",
+        }
+    }
 }
 
 /// Gas that comes into an account's bank; what leaves it is negative.
@@ -95,21 +110,26 @@ fn posting(entry: &Entry, retainage: u64) -> Vec<Movement> {
 fn closing(step: &Step) -> Vec<Movement> {
     let mut moved = Vec::new();
     for (account, report) in step.answer.reports.iter().enumerate() {
-        let cash = match report.cash {
-            0 => None,
-            1.. => Some((Cause::CashIn, report.cash)),
-            _ => Some((Cause::CashOut, report.cash)),
-        };
-        let forfeit = match report.forfeit {
-            0 => None,
-            units => Some((Cause::Forfeit, -(units as i64))),
-        };
         let of_account = |(cause, units)| Movement {
             account,
             cause,
             units,
         };
-        moved.extend(cash.into_iter().chain(forfeit).map(of_account));
+        moved.extend(reported_movements(report).map(of_account));
     }
     moved
+}
+
+/// Cash and forfeit as a closing reports them of an account.
+pub fn reported_movements(report: &Report) -> impl Iterator<Item = (Cause, i64)> {
+    let cash = match report.cash {
+        0 => None,
+        1.. => Some((Cause::CashIn, report.cash)),
+        _ => Some((Cause::CashOut, report.cash)),
+    };
+    let forfeit = match report.forfeit {
+        0 => None,
+        units => Some((Cause::Forfeit, -(units as i64))),
+    };
+    cash.into_iter().chain(forfeit)
 }

@@ -26,15 +26,15 @@ const BANK: &str = "supplier:NN:bank";
 const OWED: &str = "supplier:NN:owed";
 const BILLS: &str = "company:bills:NN";
 
-/// What a movement between a bank and no other bank is called, and the account on its other side.
-const OTHER_SIDES: [(Cause, &str, &str); 7] = [
-    (Cause::Opening, "opening", "openings:NN"),
-    (Cause::Delivery, "delivery", "deliveries:NN"),
-    (Cause::Sale, "company sale", "company:sales:NN"),
-    (Cause::Purchase, "company purchase", "company:purchases:NN"),
-    (Cause::CashIn, "cash-in", "company:cash-ins:NN"),
-    (Cause::CashOut, "cash-out", "company:cash-outs:NN"),
-    (Cause::Forfeit, "forfeit", "company:forfeits:NN"),
+/// The account on the other side of a movement between a bank and no other bank.
+const OTHER_SIDES: [(Cause, &str); 7] = [
+    (Cause::Opening, "openings:NN"),
+    (Cause::Delivery, "deliveries:NN"),
+    (Cause::Sale, "company:sales:NN"),
+    (Cause::Purchase, "company:purchases:NN"),
+    (Cause::CashIn, "company:cash-ins:NN"),
+    (Cause::CashOut, "company:cash-outs:NN"),
+    (Cause::Forfeit, "company:forfeits:NN"),
 ];
 
 pub fn write(archive: &[u8], out: &mut dyn Write) -> Result<(), Failure> {
@@ -68,14 +68,14 @@ fn write_movement(step: &Step, movement: Movement, out: &mut dyn Write) -> io::R
     if cause == Cause::Opening {
         declare(account, out)?;
     }
-    let known = OTHER_SIDES.iter().find(|(known, ..)| *known == cause);
-    let (what, other) = match (cause, known) {
-        (_, Some((_, what, other))) => (*what, of_supplier(other, account)),
-        (Cause::TransferTo(receiver), _) => ("transfer", of_supplier(BANK, receiver)),
+    let known = OTHER_SIDES.iter().find(|(known, _)| *known == cause);
+    let other = match (cause, known) {
+        (_, Some((_, other))) => of_supplier(other, account),
+        (Cause::TransferTo(receiver), _) => of_supplier(BANK, receiver),
         // The giver's movement has written both sides of a transfer.
         _ => return Ok(()),
     };
-    head(step, what, out)?;
+    head(step, cause.name(), out)?;
     posting(&of_supplier(BANK, account), &gas(units), "DTH", out)?;
     posting(&other, &gas(-units), "DTH", out)?;
     writeln!(out)
@@ -83,7 +83,7 @@ fn write_movement(step: &Step, movement: Movement, out: &mut dyn Write) -> io::R
 
 /// Names a supplier's accounts, for those who read journals strictly.
 fn declare(number: usize, out: &mut dyn Write) -> io::Result<()> {
-    let other_sides = OTHER_SIDES.iter().map(|(.., account)| *account);
+    let other_sides = OTHER_SIDES.iter().map(|(_, account)| *account);
     for account in [BANK, OWED, BILLS].into_iter().chain(other_sides) {
         writeln!(out, "account {}", of_supplier(account, number))?;
     }

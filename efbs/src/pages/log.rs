@@ -1,12 +1,12 @@
 //! The log: each entry in words with its answer.
 
 use super::show;
-use crate::amounts::{gas, grouped, money};
 use crate::entry::{Entry, Kind};
 use crate::failure::Failure;
 use crate::form::Value;
-use crate::movements::{Movement, Movements};
+use crate::movements::{reported_movements, Movement, Movements};
 use crate::replay::Step;
+use crate::shown;
 use crate::words::{numbered_violation, refusal, violation_list};
 use nedrulov::{Account, Report, ACCOUNTS, ENTRY_BYTES};
 use std::io::{self, Write};
@@ -58,8 +58,7 @@ pub fn write(archive: &[u8], choice: Choice, out: &mut dyn Write) -> Result<(), 
             false => Ok(()),
         }
     })?;
-    let [all, accepted, refused] =
-        [accepted + refused, accepted, refused].map(|number| grouped(&number.to_string()));
+    let [all, accepted, refused] = [accepted + refused, accepted, refused].map(shown::whole);
     writeln!(out, "{all} entries: {accepted} accepted, {refused} refused")?;
     Ok(())
 }
@@ -150,8 +149,8 @@ fn effect(step: &Step, moved: &[Movement], choice: Choice) -> String {
 }
 
 fn moved_in_words(movement: &Movement, bank: i64) -> String {
-    let bank = grouped(&gas(bank));
-    let size = grouped(&gas(movement.units.abs()));
+    let bank = shown::gas(bank);
+    let size = shown::gas(movement.units.abs());
     let way = match movement.units {
         0 => return format!("bank {} stays at {bank} Dth", movement.account),
         1.. => "up",
@@ -172,8 +171,8 @@ fn step_in_words(account: &Account) -> String {
 }
 
 fn capacity(account: &Account) -> String {
-    let dth = |number: u64| grouped(&number.to_string());
-    let (mddq, bcq) = (dth(account.capacity.mddq), dth(account.capacity.bcq));
+    let capacity = &account.capacity;
+    let [mddq, bcq] = [capacity.mddq, capacity.bcq].map(shown::whole);
     format!("step {}, MDDQ {mddq} Dth, BCQ {bcq} Dth", account.step.k)
 }
 
@@ -183,7 +182,7 @@ fn closing_parts(step: &Step, account: usize) -> Vec<String> {
     let [before, after] = [step.before, step.after].map(|ledger| &ledger.accounts[account]);
     let mut parts = reported(report);
     if step.entry.kind == Kind::CloseMonth && after.opened {
-        let (bill, owed) = (grouped(&money(report.bill)), grouped(&money(after.owed)));
+        let (bill, owed) = (shown::money(report.bill), shown::money(after.owed));
         parts.push(format!("bill ${bill}, owed ${owed}"));
     }
     if before.step.k != after.step.k {
@@ -191,7 +190,7 @@ fn closing_parts(step: &Step, account: usize) -> Vec<String> {
         parts.push(format!("from step {} to {new}", before.step.k));
     }
     if !parts.is_empty() {
-        parts.push(format!("bank {} Dth", grouped(&gas(after.bank))));
+        parts.push(format!("bank {} Dth", shown::gas(after.bank)));
     }
     parts
 }
@@ -200,14 +199,10 @@ fn closing_parts(step: &Step, account: usize) -> Vec<String> {
 fn reported(report: &Report) -> Vec<String> {
     let violated = violation_list(report.mask).into_iter();
     let mut parts: Vec<String> = violated.map(numbered_violation).collect();
-    let dth = |units: i64| grouped(&gas(units));
-    match report.cash {
-        0 => {}
-        1.. => parts.push(format!("cash-in {} Dth", dth(report.cash))),
-        _ => parts.push(format!("cash-out {} Dth", dth(report.cash.abs()))),
-    }
-    if report.forfeit > 0 {
-        parts.push(format!("forfeit {} Dth", dth(report.forfeit as i64)));
-    }
+    let moved = reported_movements(report);
+    parts.extend(moved.map(|(cause, units)| {
+        let size = shown::gas(units.abs());
+        format!("{} {size} Dth", cause.name())
+    }));
     parts
 }

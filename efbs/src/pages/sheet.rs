@@ -1,11 +1,12 @@
 //! The year sheet: banks after each month's closing.
 
-use crate::amounts::{gas, grouped};
+use crate::amounts::gas;
 use crate::archive::Refusal;
 use crate::calendar::{months, year_after};
 use crate::failure::Failure;
 use crate::movements::Movements;
 use crate::replay::replay;
+use crate::shown;
 use crate::words::month_name;
 use nedrulov::MONTHS;
 use std::io::{self, Write};
@@ -62,7 +63,7 @@ fn write_table(sheet: &Sheet, out: &mut dyn Write) -> io::Result<()> {
     let names = months(year).map(|(_, month)| month_name(month).to_string());
     let mut lines = vec![("account".to_string(), names.to_vec())];
     for (account, banks) in &sheet.rows {
-        let cells = banks.iter().map(|bank| grouped(&gas(*bank)));
+        let cells = banks.iter().map(|bank| shown::gas(*bank));
         lines.push((account.to_string(), cells.collect()));
     }
     let longest = |column: usize| lines.iter().map(|(_, cells)| cells[column].len()).max();

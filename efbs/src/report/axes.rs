@@ -1,10 +1,11 @@
 //! The axes of a chart: amounts to the left, months and the BCQ below.
 
 use super::gas_year::{Course, GasYear};
-use super::html::{escape, whole};
+use super::html::escape;
 use super::scale::{stretches, Scale, LEFT, NAMES, RIGHT, UNITS_PER_DTH};
 use crate::amounts::grouped;
 use crate::calendar;
+use crate::shown::whole;
 use crate::words::month_name;
 use nedrulov::MONTHS;
 

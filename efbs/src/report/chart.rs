@@ -3,12 +3,13 @@
 use super::axes;
 use super::flags::{self, Flag};
 use super::gas_year::{BankDay, Course, GasYear};
-use super::html::{gas, violation_days};
+use super::html::violation_days;
 use super::lanes;
 use super::reported::named;
 use super::scale::{stretches, Scale, Stretch, FOOT, WIDTH};
 use super::signs::SIGNS;
 use crate::calendar::month_starts;
+use crate::shown::gas;
 use nedrulov::MONTHS;
 
 /// Of a sign, from its middle; less where signs stand day by day.

@@ -2,9 +2,9 @@
 //! another and no pole runs through a word.
 
 use super::gas_year::{BankDay, Course};
-use super::html::gas;
 use super::scale::{Scale, FLAG_ROW, WIDTH};
 use super::signs::{Sign, SIGNS};
+use crate::shown::gas;
 use crate::words::violation_list;
 
 const MOST_ROWS: usize = 4;

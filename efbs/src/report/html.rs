@@ -1,7 +1,7 @@
 //! The few forms of HTML that the page is made of.
 
-use crate::amounts;
 use crate::entry::Day;
+use crate::shown::whole;
 
 /// Text with the characters that markup gives a meaning replaced.
 pub fn escape(text: &str) -> String {
@@ -17,20 +17,6 @@ pub fn escape(text: &str) -> String {
         }
     }
     safe
-}
-
-/// Gas for reading, in Dth.
-pub fn gas(units: i64) -> String {
-    amounts::grouped(&amounts::gas(units))
-}
-
-/// Money for reading, in dollars.
-pub fn money(mills: i64) -> String {
-    amounts::grouped(&amounts::money(mills))
-}
-
-pub fn whole(number: u64) -> String {
-    amounts::grouped(&number.to_string())
 }
 
 /// A date that does not break over two lines.

@@ -1,8 +1,9 @@
 //! The suppliers at a glance.
 
 use super::gas_year::{Course, GasYear};
-use super::html::{gas, row, table, whole, Row};
+use super::html::{row, table, Row};
 use crate::entry::Day;
+use crate::shown::{gas, whole};
 
 /// Each supplier after the year's last closing.
 pub fn overview(year: &GasYear, last: Day) -> String {

@@ -1,8 +1,9 @@
 //! The page's frame: its head with the panel figure, and its foot.
 
 use super::gas_year::GasYear;
-use super::html::{escape, gas, whole};
+use super::html::escape;
 use crate::calendar::year_after;
+use crate::shown::{gas, whole};
 use crate::words::month_name;
 use nedrulov::{Date, Ledger};
 

@@ -1,9 +1,10 @@
 //! The days on which closings reported something of an account: violations, cash or a forfeit.
 
 use super::gas_year::{BankDay, Course};
-use super::html::{escape, gas, table, Row};
+use super::html::{escape, table, Row};
 use super::signs::{Sign, SIGNS};
 use crate::entry::Day;
+use crate::shown::gas;
 use crate::words::{numbered_violation, violation_list};
 
 /// Adjoining days with the same violations; gas that was moved is added up.

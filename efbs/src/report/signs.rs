@@ -1,5 +1,6 @@
 //! The signs that a closing leaves on a chart. Each has a shape of its own, so that colour alone tells nothing.
 
+use crate::movements::{reported_movements, Cause};
 use nedrulov::Report;
 
 #[derive(Clone, Copy, Debug, PartialEq, Eq)]
@@ -13,31 +14,33 @@ pub enum Sign {
 pub const SIGNS: [Sign; 4] = [Sign::Violation, Sign::CashIn, Sign::CashOut, Sign::Forfeit];
 
 impl Sign {
-    pub fn name(self) -> &'static str {
+    /// Why gas was moved, if it was.
+    fn cause(self) -> Option<Cause> {
         match self {
-            Sign::Violation => "violation day",
-            Sign::CashIn => "cash-in",
-            Sign::CashOut => "cash-out",
-            Sign::Forfeit => "forfeit",
+            Sign::Violation => None,
+            Sign::CashIn => Some(Cause::CashIn),
+            Sign::CashOut => Some(Cause::CashOut),
+            Sign::Forfeit => Some(Cause::Forfeit),
         }
+    }
+
+    pub fn name(self) -> &'static str {
+        self.cause().map_or("violation day", Cause::name)
     }
 
     /// The name that the style sheet knows it by.
     pub fn class(self) -> &'static str {
-        match self {
-            Sign::Violation => "violation",
-            other => other.name(),
-        }
+        self.cause().map_or("violation", Cause::name)
     }
 
-    /// The gas that it moved, in units; nothing if the closing did not report it.
+    /// The size of what was moved, in units; nothing if the closing did not report it.
     pub fn moved(self, report: &Report) -> Option<i64> {
-        match self {
-            Sign::Violation => (report.mask != 0).then_some(0),
-            Sign::CashIn => (report.cash > 0).then_some(report.cash),
-            Sign::CashOut => (report.cash < 0).then_some(-report.cash),
-            Sign::Forfeit => (report.forfeit > 0).then_some(report.forfeit as i64),
-        }
+        let Some(cause) = self.cause() else {
+            return (report.mask != 0).then_some(0);
+        };
+        let mut moved = reported_movements(report);
+        let found = moved.find(|(reported, _)| *reported == cause);
+        found.map(|(_, units)| units.abs())
     }
 
     /// How far below its day's bank the sign stands, so that two of one day do not cover each other: gas that came in

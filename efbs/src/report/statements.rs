@@ -1,8 +1,9 @@
 //! The statement of each supplier: what can be added up, beside what the ledger says.
 
 use super::gas_year::GasYear;
-use super::html::{escape, gas, money, row, table, time, whole, Row};
+use super::html::{escape, row, table, time, Row};
 use crate::calendar::{gas_year_name, gas_year_of};
+use crate::shown::{gas, money, whole};
 use crate::statement::{Bill, Statement};
 use crate::words::numbered_violation;
 

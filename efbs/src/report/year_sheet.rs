@@ -1,8 +1,9 @@
 //! The year sheet as a table.
 
 use super::gas_year::{Course, GasYear};
-use super::html::{escape, gas, table, Row};
+use super::html::{escape, table, Row};
 use crate::calendar::calendar_month;
+use crate::shown::gas;
 use crate::words::month_name;
 use nedrulov::{ACCOUNTS, MONTHS};
 use std::iter;
