@@ -71,7 +71,7 @@ pub fn bars(scale: &Scale, lanes: &[Lane]) -> String {
     let top = scale.bottom() + FOOT;
     let mut all = format!(
         "<text class=\"key\" x=\"{LEFT:.1}\" y=\"{:.1}\">A bar covers the days on which a closing reported what stands \
-         before it; there are too many for flags.</text>\n",
+         before it; flags would have no room.</text>\n",
         top + 13.0
     );
     for (row, lane) in lanes.iter().enumerate() {
