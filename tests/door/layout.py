@@ -71,33 +71,26 @@ def rattle_functions(source):
     return found
 
 
-def c_parameters(parameters):
-    """Rattle's parameters as C has them: a slice is a pointer and then a length."""
+def crossing(parameters, value, pointer):
+    """Rattle's parameters as another language has them: what is lent is a pointer, a slice a pointer and then a length."""
     made = []
     for _, kind in parameters:
-        slice_ = re.fullmatch(r"&(mut )?\[(\w+)\]", kind.strip())
-        lent = re.fullmatch(r"&mut (\w+)", kind.strip())
-        if slice_:
-            made += [("" if slice_.group(1) else "const ") + IN_C[slice_.group(2)] + " *", "size_t"]
-        elif lent:
-            made.append(STRUCTS[lent.group(1)] + " *")
+        lent = re.fullmatch(r"&(mut )?(\[)?(\w+)\]?", kind.strip())
+        if lent:
+            made.append(pointer(value(lent[3]), bool(lent[1])))
         else:
-            made.append(c_type(kind.strip())[0])
+            made.append(value(kind.strip()))
+        if lent and lent[2]:
+            made.append(value("usize"))
     return made
+
+
+def c_parameters(parameters):
+    return crossing(parameters, lambda kind: c_type(kind)[0], lambda kind, written: ("" if written else "const ") + kind + " *")
 
 
 def rust_parameters(parameters):
-    made = []
-    for _, kind in parameters:
-        slice_ = re.fullmatch(r"&(mut )?\[(\w+)\]", kind.strip())
-        lent = re.fullmatch(r"&mut (\w+)", kind.strip())
-        if slice_:
-            made += [f"*{'mut' if slice_.group(1) else 'const'} {slice_.group(2)}", "usize"]
-        elif lent:
-            made.append("*mut " + lent.group(1))
-        else:
-            made.append(kind.strip())
-    return made
+    return crossing(parameters, lambda kind: kind, lambda kind, written: f"*{'mut' if written else 'const'} {kind}")
 
 
 def main():
@@ -128,7 +121,7 @@ def main():
     else:
         for name, (parameters, result) in functions.items():
             given = [re.sub(r"\w+$", "", p.strip()).strip() for p in declared[name].split(",") if p.strip() != "void"]
-            if given != [p.strip() for p in c_parameters(parameters)] or results[name] != c_type(result)[0]:
+            if given != c_parameters(parameters) or results[name] != c_type(result)[0]:
                 wrong.append(f"{name}: the header has {results[name]} of {given}, expected {c_parameters(parameters)}")
             if bound[name] != (rust_parameters(parameters), result):
                 wrong.append(f"{name}: bindings/rust has {bound[name]}, expected {rust_parameters(parameters)}, {result}")

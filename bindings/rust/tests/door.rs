@@ -1,7 +1,7 @@
 //! The lent posting against the one by value, and the archive's functions, through the static library.
 use nedrulov::*;
 
-const SAMPLE: &[u8] = include_bytes!("../../../samples/gas-year.efb");
+const SAMPLE: &[u8] = include_bytes!("../../../crates/sheets/stdin");
 
 /// The entries of the sample, without its header and directory.
 fn list() -> &'static [u8] {

@@ -8,7 +8,7 @@ use crate::random::Random;
 use crate::run::{Run, Same};
 
 /// A whole gas year that another program wrote.
-const SAMPLE: &[u8] = include_bytes!("../../../samples/gas-year.efb");
+const SAMPLE: &[u8] = include_bytes!("../../../crates/sheets/stdin");
 
 pub fn case(random: &mut Random, run: &mut Run) -> Same {
     if random.one_in(40) {

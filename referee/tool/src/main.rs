@@ -1,5 +1,6 @@
-//! Compares the proved library with the referee, and races them.
+//! Compares the proved library with the referee, and races both and others.
 
+mod accounting;
 mod amounts;
 mod archives;
 mod both;

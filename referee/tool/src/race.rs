@@ -1,5 +1,6 @@
-//! The command that races: the same entries through the library and the referee, by size.
+//! The command that races: the same entries through the library, the referee and accounting programs, by size.
 
+use crate::accounting;
 use crate::convert;
 use crate::gas_year::{make, Plan};
 use crate::random::Random;
@@ -12,11 +13,17 @@ const YEARS: [usize; 3] = [1, 10, 30];
 const REPETITIONS: usize = 7;
 
 /// The entries of some gas years, and their archive.
-struct Track {
-    suppliers: u8,
-    years: usize,
+pub struct Track {
+    pub suppliers: u8,
+    pub years: usize,
     list: Vec<u8>,
-    archive: Vec<u8>,
+    pub archive: Vec<u8>,
+}
+
+impl Track {
+    pub fn entries(&self) -> usize {
+        self.list.len() / 32
+    }
 }
 
 /// The best times of one track.
@@ -48,6 +55,7 @@ pub fn run() {
     let times: Vec<Times> = tracks.iter().map(measure).collect();
     print_postings(&tracks, &times);
     print_archives(&tracks, &times);
+    accounting::run(&tracks);
 }
 
 fn track(suppliers: u8, years: usize) -> Track {
@@ -95,7 +103,7 @@ fn measure(track: &Track) -> Times {
     best
 }
 
-fn shorten<T>(best: &mut Duration, work: impl FnOnce() -> T) {
+pub fn shorten<T>(best: &mut Duration, work: impl FnOnce() -> T) {
     let start = Instant::now();
     black_box(work());
     *best = start.elapsed().min(*best);
@@ -103,7 +111,7 @@ fn shorten<T>(best: &mut Duration, work: impl FnOnce() -> T) {
 
 /// All runners accept every entry and come to the same ledger.
 fn agree(track: &Track) {
-    let entries = track.list.len() / 32;
+    let entries = track.entries();
     let (value, accepted_by_value) = by_value(&track.list);
     let (lent, accepted_lent) = lent(&track.list);
     let (own, accepted) = of_referee(&track.list);
@@ -147,7 +155,7 @@ fn print_postings(tracks: &[Track], times: &[Times]) {
     println!("\npostings, entries per second");
     println!("suppliers years  entries     by value         lent      referee   ratio by value  ratio lent");
     for (track, times) in tracks.iter().zip(times) {
-        let entries = track.list.len() / 32;
+        let entries = track.entries();
         let [value, lent, own] =
             [times.by_value, times.lent, times.referee].map(|time| time.as_secs_f64());
         let speed = |time: f64| entries as f64 / time;

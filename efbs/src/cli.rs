@@ -1,0 +1,149 @@
+//! From the words of the command line to an exit status: 0 done, 1 refused or failed, 2 asked for in a wrong way.
+
+use crate::archive::Refusal;
+use crate::arguments::{Arguments, Opt};
+use crate::command::{Command, COMMANDS};
+use crate::failure::Failure;
+use crate::files;
+use crate::words::refusal;
+use std::ffi::{OsStr, OsString};
+use std::io::{self, ErrorKind, Write};
+
+const DONE: u8 = 0;
+const FAILED: u8 = 1;
+const WRONG_USE: u8 = 2;
+
+pub fn run(words: &[OsString]) -> u8 {
+    let Some((first, rest)) = words.split_first() else {
+        return wrong_use("a command is missing", "efbs help");
+    };
+    let asks_help = |word: &OsString| word == "--help" || word == "-h";
+    if first == "help" || asks_help(first) {
+        return match rest.first() {
+            None => say(&overview()),
+            Some(name) => named(name).map_or_else(|| no_command(name), |known| say(&help(known))),
+        };
+    }
+    match named(first) {
+        None => no_command(first),
+        Some(command) if rest.iter().any(asks_help) => say(&help(command)),
+        Some(command) => run_command(command, rest),
+    }
+}
+
+fn named(name: &OsStr) -> Option<&'static Command> {
+    COMMANDS.iter().find(|command| name == command.name)
+}
+
+fn run_command(command: &Command, words: &[OsString]) -> u8 {
+    let arguments = match Arguments::parse(words, command.operands, command.options) {
+        Ok(arguments) => arguments,
+        Err(failure) => return tell(command, "", failure),
+    };
+    let write = |out: &mut dyn Write| (command.run)(&arguments, out);
+    let done = match arguments.output() {
+        Some(path) => files::to_file(path, write),
+        None => files::to_standard_output(write),
+    };
+    match done {
+        Ok(()) => DONE,
+        Err(failure) => tell(command, &arguments.path(0).to_string_lossy(), failure),
+    }
+}
+
+/// Says why a command failed on a file.
+fn tell(command: &Command, file: &str, failure: Failure) -> u8 {
+    match failure {
+        Failure::Usage(message) => wrong_use(&message, &format!("efbs {} --help", command.name)),
+        Failure::Refused(refusal) => fail(&refused(file, refusal)),
+        Failure::Told(message) => fail(&message),
+        Failure::Output(error) => unwritten(error),
+    }
+}
+
+fn unwritten(error: io::Error) -> u8 {
+    match error.kind() {
+        // Whoever reads has seen enough.
+        ErrorKind::BrokenPipe => DONE,
+        _ => fail(&format!(
+            "the output cannot be written: {error}. Check that there is room."
+        )),
+    }
+}
+
+/// A refusal in words, and what to do next.
+fn refused(name: &str, Refusal { number, index }: Refusal) -> String {
+    let place = match number {
+        8 | 9 | 11 => String::new(),
+        _ => format!(" at entry {index}"),
+    };
+    let next = match number {
+        8 => "Check that it is an archive: it begins with EFB1. A text becomes one by efbs pack.",
+        11 => "Begin another archive.",
+        _ => "It is damaged: take another copy of it.",
+    };
+    format!(
+        "{name} is refused with {number}{place}: {}. {next}",
+        refusal(number)
+    )
+}
+
+fn no_command(name: &OsStr) -> u8 {
+    let message = format!("there is no command \"{}\"", name.to_string_lossy());
+    wrong_use(&message, "efbs help")
+}
+
+fn wrong_use(message: &str, help: &str) -> u8 {
+    eprintln!("efbs: {message}. Try: {help}");
+    WRONG_USE
+}
+
+fn fail(message: &str) -> u8 {
+    eprintln!("efbs: {message}");
+    FAILED
+}
+
+/// Help goes to standard output.
+fn say(text: &str) -> u8 {
+    let mut out = io::stdout().lock();
+    match out.write_all(text.as_bytes()).and_then(|()| out.flush()) {
+        Ok(()) => DONE,
+        Err(error) => unwritten(error),
+    }
+}
+
+fn overview() -> String {
+    let mut text =
+        String::from("efbs reads, shows and converts archives of the bank recorder.\n\n");
+    for command in &COMMANDS {
+        text += &format!("  {}\n      {}\n", usage(command), command.about);
+    }
+    text + "
+Gas is in Dth and money in dollars unless said otherwise. A.efb is an archive, N an account from 0 to 15.
+Exit status: 0 done; 1 refused, not readable or not in agreement; 2 asked for in a wrong way.
+efbs COMMAND --help tells more of a command.
+"
+}
+
+fn help(command: &Command) -> String {
+    let (first, rest) = command.about.split_at(1);
+    let about = first.to_uppercase() + rest;
+    format!("{}\n\n{about}.\n{}\n", usage(command), command.help)
+}
+
+fn usage(command: &Command) -> String {
+    let operands = command.operands.iter().map(|operand| format!(" {operand}"));
+    let options = command.options.iter().map(|option| match option.required {
+        true => format!(" {}", spelt(option)),
+        false => format!(" [{}]", spelt(option)),
+    });
+    let rest: String = operands.chain(options).collect();
+    format!("efbs {}{rest}", command.name)
+}
+
+fn spelt(option: &Opt) -> String {
+    match option.value {
+        Some(value) => format!("{} {value}", option.name),
+        None => option.name.to_string(),
+    }
+}

@@ -1,0 +1,202 @@
+//! The commands: their names, what they take, what they do.
+
+use crate::archive::{self, entries, Refusal};
+use crate::arguments::{Arguments, Opt};
+use crate::failure::Failure;
+use crate::files::{self, read_archive};
+use crate::pages;
+use crate::report::report;
+use crate::text;
+use std::io::{BufReader, Write};
+
+pub struct Command {
+    pub name: &'static str,
+    pub operands: &'static [&'static str],
+    pub options: &'static [Opt],
+    /// One line for the list of commands.
+    pub about: &'static str,
+    /// More, for the command's own help.
+    pub help: &'static str,
+    pub run: fn(&Arguments, &mut dyn Write) -> Result<(), Failure>,
+}
+
+const ARCHIVE: &[&str] = &["A.efb"];
+
+const ACCOUNT: Opt = Opt {
+    name: "--account",
+    value: Some("N"),
+    required: false,
+};
+
+const fn flag(name: &'static str) -> Opt {
+    Opt {
+        name,
+        value: None,
+        required: false,
+    }
+}
+
+const fn output(file: &'static str, required: bool) -> Opt {
+    Opt {
+        name: "-o",
+        value: Some(file),
+        required,
+    }
+}
+
+pub const COMMANDS: [Command; 8] = [PACK, UNPACK, PANEL, LOG, STATEMENT, JOURNAL, SHEET, REPORT];
+
+const PACK: Command = Command {
+    name: "pack",
+    operands: &["FILE.txt"],
+    options: &[output("A.efb", true)],
+    about: "make an archive of entries written as text",
+    help: "\
+The text has one entry a line; docs/TEXT-FORMAT.md describes it, and unpack shows it.
+An entry that the ledger would refuse is archived all the same; one that is no entry is an error.",
+    run: pack,
+};
+
+const UNPACK: Command = Command {
+    name: "unpack",
+    operands: ARCHIVE,
+    options: &[output("FILE.txt", false)],
+    about: "write an archive's entries as text",
+    help: "Packed again, the text gives the same archive, byte for byte.",
+    run: unpack,
+};
+
+const PANEL: Command = Command {
+    name: "panel",
+    operands: ARCHIVE,
+    options: &[],
+    about: "the panel's line: entries accepted, entries refused, total gas in bank",
+    help: "\
+The gas is in hundredths of a Dth. Of a refused archive the line is the word archive, the number of the refusal and the
+index of the entry at fault.",
+    run: panel,
+};
+
+const LOG: Command = Command {
+    name: "log",
+    operands: ARCHIVE,
+    options: &[ACCOUNT, flag("--refused")],
+    about: "each entry in words with its answer",
+    help: "\
+A line has the entry's index in the archive, counted from 0, its date, the answer and the entry; a closing is followed
+by what it reported of each account concerned.
+  --account N   entries that use account N, and its part of the closings; no other account's bank
+  --refused     refused entries only",
+    run: log,
+};
+
+const STATEMENT: Command = Command {
+    name: "statement",
+    operands: ARCHIVE,
+    options: &[
+        ACCOUNT,
+        Opt {
+            name: "--until",
+            value: Some("DATE"),
+            required: false,
+        },
+    ],
+    about: "each supplier's bank, bills and violation days, added up",
+    help: "\
+The sums are made of accepted entries and reported closings alone and stand beside the ledger's own figures. Exit
+status 1 if any of them differ.
+  --account N    account N alone
+  --until DATE   entries dated up to and with that day, as 2026-09-30",
+    run: statement,
+};
+
+const JOURNAL: Command = Command {
+    name: "journal",
+    operands: ARCHIVE,
+    options: &[],
+    about: "the movements as a journal for hledger or ledger",
+    help: "\
+One transaction for each movement of gas and each bill, and after each month the ledger's balances as assertions.
+Try: efbs journal A.efb > a.journal; hledger -f a.journal balance supplier; ledger -f a.journal balance supplier",
+    run: journal,
+};
+
+const SHEET: Command = Command {
+    name: "sheet",
+    operands: &["A.efb", "YEAR"],
+    options: &[flag("--csv")],
+    about: "banks after each month of the gas year that begins in April of YEAR",
+    help: "\
+In Dth, a row for every account that the archive ever enrolls. 0.00 also stands where a month was not closed or an
+account not yet open.
+  --csv   plain numbers separated by commas, below a line of names",
+    run: sheet,
+};
+
+const REPORT: Command = Command {
+    name: "report",
+    operands: &["A.efb", "YEAR"],
+    options: &[output("report.html", false)],
+    about: "a page with the gas year that begins in April of YEAR",
+    help: "The page is one file and needs no other; any browser shows it.",
+    run: write_report,
+};
+
+fn pack(arguments: &Arguments, out: &mut dyn Write) -> Result<(), Failure> {
+    let path = arguments.path(0);
+    let list = text::read(BufReader::new(files::open(path)?)).map_err(|fault| match fault {
+        text::Fault::Unreadable(error) => files::unreadable(path, error),
+        wrong => Failure::Told(format!(
+            "{}, {wrong}. Mend the line; docs/TEXT-FORMAT.md has the kinds and their ranges.",
+            path.display()
+        )),
+    })?;
+    Ok(out.write_all(&archive::of_list(&list)?)?)
+}
+
+fn unpack(arguments: &Arguments, out: &mut dyn Write) -> Result<(), Failure> {
+    let archive = read_archive(arguments.path(0))?;
+    let list = entries(&archive)?;
+    Ok(text::write(list, out)?)
+}
+
+fn panel(arguments: &Arguments, out: &mut dyn Write) -> Result<(), Failure> {
+    let archive = read_archive(arguments.path(0))?;
+    let figures = nedrulov::figures(&archive);
+    let (number, index) = (figures.number, figures.index);
+    if number != 0 {
+        writeln!(out, "archive {number} {index}")?;
+        return Err(Refusal { number, index }.into());
+    }
+    let (accepted, refused) = (figures.accepted, figures.refused);
+    Ok(writeln!(out, "{accepted} {refused} {}", figures.figure)?)
+}
+
+fn log(arguments: &Arguments, out: &mut dyn Write) -> Result<(), Failure> {
+    let choice = pages::log::Choice {
+        account: arguments.account()?,
+        refused: arguments.has("--refused"),
+    };
+    pages::log::write(&read_archive(arguments.path(0))?, choice, out)
+}
+
+fn statement(arguments: &Arguments, out: &mut dyn Write) -> Result<(), Failure> {
+    let (account, until) = (arguments.account()?, arguments.until()?);
+    pages::statement::write(&read_archive(arguments.path(0))?, account, until, out)
+}
+
+fn journal(arguments: &Arguments, out: &mut dyn Write) -> Result<(), Failure> {
+    pages::journal::write(&read_archive(arguments.path(0))?, out)
+}
+
+fn sheet(arguments: &Arguments, out: &mut dyn Write) -> Result<(), Failure> {
+    let year = arguments.year(1)?;
+    let archive = read_archive(arguments.path(0))?;
+    pages::sheet::write(&archive, year, arguments.has("--csv"), out)
+}
+
+fn write_report(arguments: &Arguments, out: &mut dyn Write) -> Result<(), Failure> {
+    let year = arguments.year(1)?;
+    let page = report(&read_archive(arguments.path(0))?, year)?;
+    Ok(out.write_all(page.as_bytes())?)
+}

@@ -1,0 +1,21 @@
+//! Archives of the bank recorder read, shown and converted. The proved library decides every figure.
+
+pub mod amounts;
+pub mod archive;
+pub mod arguments;
+pub mod calendar;
+pub mod cli;
+pub mod command;
+pub mod entry;
+pub mod failure;
+pub mod files;
+pub mod form;
+pub mod movements;
+pub mod pages;
+pub mod pending;
+pub mod replay;
+pub mod report;
+pub mod shown;
+pub mod statement;
+pub mod text;
+pub mod words;

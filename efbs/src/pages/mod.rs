@@ -1,0 +1,24 @@
+//! What the commands write, each from an archive.
+
+pub mod journal;
+pub mod log;
+pub mod sheet;
+pub mod statement;
+
+use crate::failure::Failure;
+use crate::replay::{replay_while, Step};
+use nedrulov::Ledger;
+use std::io;
+use std::ops::ControlFlow;
+
+/// Replays an archive while its steps can be written.
+fn show(archive: &[u8], mut write: impl FnMut(&Step) -> io::Result<()>) -> Result<Ledger, Failure> {
+    let ended = replay_while(archive, |step| match write(step) {
+        Ok(()) => ControlFlow::Continue(()),
+        Err(error) => ControlFlow::Break(error),
+    })?;
+    match ended {
+        ControlFlow::Continue(ledger) => Ok(ledger),
+        ControlFlow::Break(error) => Err(error.into()),
+    }
+}

@@ -1,0 +1,134 @@
+//! What the accepted closings of one gas year showed, account by account.
+
+use crate::calendar::{day_of_gas_year, gas_month, gas_year_name, gas_year_of};
+use crate::entry::{Day, Kind};
+use crate::pending::{maximum_percent, minimum_percent};
+use crate::replay::Step;
+use nedrulov::{Report, ACCOUNTS, MONTHS};
+
+/// One account on one closed day.
+pub struct BankDay {
+    pub date: Day,
+    /// Days since April 1.
+    pub offset: usize,
+    /// After the closing, in units.
+    pub bank: i64,
+    /// In Dth, as the closing found it.
+    pub bcq: u64,
+    pub report: Report,
+}
+
+impl BankDay {
+    /// The month's least bank in units: a percentage of whole Dth is whole units.
+    pub fn minimum(&self) -> i64 {
+        (minimum_percent(self.date.month.into()) * self.bcq) as i64
+    }
+
+    pub fn maximum(&self) -> i64 {
+        (maximum_percent(self.date.month.into()) * self.bcq) as i64
+    }
+
+    pub fn is_violation_day(&self) -> bool {
+        self.report.mask != 0
+    }
+}
+
+/// An account over the year. Closings follow each other day by day, so the days have no gap.
+pub struct Course {
+    pub account: usize,
+    pub days: Vec<BankDay>,
+}
+
+impl Course {
+    pub fn violation_days(&self) -> u64 {
+        let days = self.days.iter();
+        days.filter(|day| day.is_violation_day()).count() as u64
+    }
+}
+
+/// Filled step by step as an archive is replayed.
+pub struct GasYear {
+    pub year: u16,
+    /// Of all accounts; those that were at no closing of the year have no days.
+    accounts: [Course; ACCOUNTS],
+    /// Total gas in bank after each month's closing, from April on.
+    pub totals: [Option<i64>; MONTHS],
+    /// First and last date of an accepted posting in the whole archive.
+    pub span: Option<(Day, Day)>,
+    /// Postings of the whole archive.
+    pub accepted: u64,
+    pub refused: u64,
+}
+
+impl GasYear {
+    pub fn new(year: u16) -> GasYear {
+        let course = |account| Course {
+            account,
+            days: Vec::new(),
+        };
+        GasYear {
+            year,
+            accounts: std::array::from_fn(course),
+            totals: [None; MONTHS],
+            span: None,
+            accepted: 0,
+            refused: 0,
+        }
+    }
+
+    pub fn add(&mut self, step: &Step) {
+        if !step.accepted() {
+            self.refused += 1;
+            return;
+        }
+        self.accepted += 1;
+        let date = step.entry.date;
+        self.span = Some((self.span.map_or(date, |(first, _)| first), date));
+        if step.entry.kind.is_closing() && gas_year_of(date) == self.year {
+            self.add_closing(step);
+        }
+    }
+
+    fn add_closing(&mut self, step: &Step) {
+        let date = step.entry.date;
+        let offset = day_of_gas_year(date);
+        for course in &mut self.accounts {
+            let account = course.account;
+            let found = &step.before.accounts[account];
+            if found.opened {
+                course.days.push(BankDay {
+                    date,
+                    offset,
+                    bank: step.after.accounts[account].bank,
+                    bcq: found.capacity.bcq,
+                    report: step.answer.reports[account],
+                });
+            }
+        }
+        if step.entry.kind == Kind::CloseMonth {
+            self.totals[gas_month(date.month)] = Some(nedrulov::panel(*step.after).figure);
+        }
+    }
+
+    /// Of the accounts that were open at a closing of the year, in order.
+    pub fn courses(&self) -> impl Iterator<Item = &Course> {
+        let accounts = self.accounts.iter();
+        accounts.filter(|course| !course.days.is_empty())
+    }
+
+    pub fn name(&self) -> String {
+        gas_year_name(self.year)
+    }
+
+    /// Whether the archive has accepted postings of other gas years too.
+    pub fn is_part_of_archive(&self) -> bool {
+        let differs = |date| gas_year_of(date) != self.year;
+        self.span
+            .is_some_and(|(first, last)| differs(first) || differs(last))
+    }
+
+    pub fn last_closing(&self) -> Option<Day> {
+        let course = self.courses().next()?;
+        course.days.last().map(|day| day.date)
+    }
+}

@@ -1,0 +1,7 @@
+//! Entries as text, one a line; docs/TEXT-FORMAT.md describes it.
+
+mod reading;
+mod writing;
+
+pub use reading::{read, Fault};
+pub use writing::{line, write};

@@ -1,0 +1,10 @@
+//! What can be wrong with a page: marks that do not match the ledger, points that are off, tags left open.
+
+#[path = "../common/mod.rs"]
+mod common;
+
+mod archives;
+mod charts;
+mod lanes;
+mod markup;
+mod reading;

@@ -1,0 +1,74 @@
+"""Damaged files put to every command: it ends with 0, 1 or 2 and never crashes (checks.run sees to that)."""
+
+import os
+import random
+import sys
+from concurrent.futures import ThreadPoolExecutor
+from datetime import date
+
+import entries
+from checks import Checks, run, write
+
+COMMANDS = (
+    ["panel", "FILE"], ["unpack", "FILE"], ["log", "FILE"], ["log", "FILE", "--account", "0", "--refused"], ["statement", "FILE"],
+    ["journal", "FILE"], ["sheet", "FILE", "2026"], ["report", "FILE", "2026"], ["pack", "FILE", "-o", "FILE.out"],
+)
+PREFIXES, FLIPS, NOISES = 200, 150, 50
+
+
+def turned(content, bit):
+    changed = bytearray(content)
+    changed[bit // 8] ^= 1 << bit % 8
+    return bytes(changed)
+
+
+def damaged(draw):
+    """Two months of a supplier as an archive and as text, each damaged."""
+    archive = entries.archive(entries.years(date(2026, 4, 1), date(2026, 5, 31), 1, draw))
+    with open("samples/gas-year.txt", "rb") as sample:
+        text = sample.read(8_000)
+    yield b""
+    for length in range(1, PREFIXES):
+        yield archive[:length]
+        yield archive[:draw.randrange(len(archive))]
+    for content in (archive, text):
+        for _ in range(FLIPS):
+            yield turned(content, draw.randrange(8 * len(content)))
+    # In the low bytes of an entry's first word most bits leave an archive that is right, of another list.
+    for _ in range(FLIPS):
+        place = 24 + 32 * draw.randrange(len(archive) // 32) + 8
+        yield turned(archive, 8 * place + draw.randrange(24))
+    for _ in range(NOISES):
+        yield draw.randbytes(draw.randrange(200))
+        yield b"EFB1" + draw.randbytes(draw.randrange(200))
+        yield archive[:24] + draw.randbytes(32 * draw.randrange(20))
+
+
+def put(folder, number, content):
+    """The exit statuses of every command, and whether all that read the archive agree on taking it."""
+    path = write(f"{folder}/damaged-{number}", content)
+    statuses = [run(*(word.replace("FILE", path) for word in command))[0] for command in COMMANDS]
+    os.remove(path)
+    if os.path.exists(f"{path}.out"):
+        os.remove(f"{path}.out")
+    return statuses
+
+
+def main():
+    folder, checks, seen = sys.argv[1], Checks("damage"), {0: 0, 1: 0}
+    draw = random.Random(1_200)
+    with ThreadPoolExecutor(os.cpu_count()) as pool:
+        results = list(pool.map(lambda pair: put(folder, *pair), enumerate(damaged(draw))))
+    for number, statuses in enumerate(results):
+        readers = set(statuses[:-1])
+        checks.that(len(readers) == 1 and readers <= {0, 1}, f"file {number}: every reader answers alike, not {statuses}")
+        for status in statuses:
+            seen[status] = seen.get(status, 0) + 1
+    for path in (folder, f"{folder}/missing"):
+        for command in COMMANDS:
+            checks.that(run(*(word.replace("FILE", path) for word in command))[0] == 1, f"{command[0]} of {path} fails")
+    checks.that(seen[0] > 500 and seen[1] > 500, f"files that are still right and files that are not, both: {seen}")
+    checks.end(f"; {len(results)} damaged files, {seen[0]} runs with status 0, {seen[1]} with 1")
+
+
+main()
