@@ -12,7 +12,6 @@ pub mod files;
 pub mod form;
 pub mod movements;
 pub mod pages;
-pub mod pending;
 pub mod replay;
 pub mod report;
 pub mod shown;

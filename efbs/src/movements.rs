@@ -1,9 +1,8 @@
 //! What an accepted entry moves, told from the entry and its answer alone.
 
 use crate::entry::{Entry, Kind};
-use crate::pending::retained;
 use crate::replay::Step;
-use nedrulov::{Report, ACCOUNTS};
+use nedrulov::{amount, Report, ACCOUNTS};
 
 /// Why gas comes into a bank or leaves it.
 #[derive(Clone, Copy, Debug, PartialEq, Eq)]
@@ -92,7 +91,7 @@ fn posting(entry: &Entry, retainage: u64) -> Vec<Movement> {
     };
     match entry.kind {
         Kind::Enrol => vec![one(Cause::Opening, second as i64)],
-        Kind::Deliver => vec![one(Cause::Delivery, retained(retainage, first, second))],
+        Kind::Deliver => vec![one(Cause::Delivery, amount(retainage, first, second))],
         Kind::Trade if entry.flags == 0 => vec![one(Cause::Sale, units)],
         Kind::Trade => vec![one(Cause::Purchase, -units)],
         Kind::Transfer => vec![

@@ -2,9 +2,8 @@
 
 use crate::calendar::{day_of_gas_year, gas_month, gas_year_name, gas_year_of};
 use crate::entry::{Day, Kind};
-use crate::pending::{maximum_percent, minimum_percent};
 use crate::replay::Step;
-use nedrulov::{Report, ACCOUNTS, MONTHS};
+use nedrulov::{band, Band, Report, ACCOUNTS, MONTHS};
 
 /// One account on one closed day.
 pub struct BankDay {
@@ -19,13 +18,17 @@ pub struct BankDay {
 }
 
 impl BankDay {
-    /// The month's least bank in units: a percentage of whole Dth is whole units.
+    /// The month's least and largest bank.
+    fn band(&self) -> Band {
+        band(self.date.month.into(), self.bcq)
+    }
+
     pub fn minimum(&self) -> i64 {
-        (minimum_percent(self.date.month.into()) * self.bcq) as i64
+        self.band().minimum as i64
     }
 
     pub fn maximum(&self) -> i64 {
-        (maximum_percent(self.date.month.into()) * self.bcq) as i64
+        self.band().maximum as i64
     }
 
     pub fn is_violation_day(&self) -> bool {

@@ -3,8 +3,11 @@
 use crate::archives::{crowded, page, pages, replayed, sample_until, SAMPLE_YEAR};
 use crate::common::sample;
 use crate::reading::{charts, drawing, height_at, number, on_axis, paths, plot, points, Path};
-use efbs::pending::{maximum_percent, minimum_percent};
 use efbs::words::{numbered_violation, violation_list};
+
+/// Percent of the BCQ from April to March, as document 01 prints them; the page asks the library.
+const MINIMUM: [u64; 12] = [0, 0, 14, 34, 54, 75, 88, 95, 78, 59, 36, 18];
+const MAXIMUM: [u64; 12] = [25, 60, 60, 60, 85, 85, 98, 98, 98, 98, 65, 45];
 
 #[test]
 fn every_violation_day_has_one_mark_and_is_named() {
@@ -62,11 +65,9 @@ fn drawn_and_due(archive: &[u8], account: usize) -> (String, Vec<[f64; 3]>) {
     let mut due = Vec::new();
     replayed(archive, |step| {
         if step.accepted() && step.entry.kind.is_closing() {
-            let (month, bcq) = (
-                step.entry.date.month.into(),
-                step.before.accounts[account].capacity.bcq,
-            );
-            let percents = [minimum_percent(month), maximum_percent(month)];
+            let month = usize::from(step.entry.date.month);
+            let bcq = step.before.accounts[account].capacity.bcq;
+            let percents = [MINIMUM, MAXIMUM].map(|table| table[(month + 8) % 12]);
             let [minimum, maximum] = percents.map(|percent| (percent * bcq) as f64 / 100.0);
             due.push([
                 step.after.accounts[account].bank as f64 / 100.0,
