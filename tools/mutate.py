@@ -112,7 +112,7 @@ def main():
     parser.add_argument("--count", type=int, default=40)
     parser.add_argument("--seed", type=int, default=1)
     parser.add_argument("crates", nargs="*", default=[])
-    asked = parser.parse_args()
+    asked = parser.parse_intermixed_args()
     copy_to(asked.folder)
     survived = 0
     for crate in asked.crates or CRATES:
