@@ -6,9 +6,6 @@ use Rattle.archive.specs.Entries.{finding}
 use Rattle.archive.proofs.check.Statement.{statement}
 use Rattle.archive.proofs.check.Tie as tie
 
-wrong-header-requires : tie.Need-wrong-header-requires
-wrong-header-requires c κs = search needs
-
 returns : tie.Need-returns
 unfolding checked finding
 returns c = rw (sym (c .before .wrong-header .ensures) ∙ c .if1 .taken)
@@ -31,7 +28,7 @@ pub check-spec : {M : Type 1} → statement M
 check-spec =
     tie.close
     (tie.spec
-    wrong-header-requires
+    (λ c κs. search needs)
     returns
     right-directory-requires
     returns-2

@@ -11,12 +11,6 @@ use Rattle.archive.proofs.figures.Tie as tie
 abbrev with-figure : Replay → Panel → Figures
 with-figure r p = record { number = r .number; index = r .index; accepted = r .accepted; refused = r .refused; figure = p .figure }
 
-replay-requires : tie.Need-replay-requires
-replay-requires c κs = search needs
-
-panel-requires : tie.Need-panel-requires
-panel-requires c κs = search needs
-
 returns : tie.Need-returns
 unfolding figuresOf
 returns c =
@@ -24,4 +18,4 @@ returns c =
     ap (λ (p : Panel). with-figure r p) (c .before .panel .ensures) ∙ ap (λ (x : Replay). with-figure x (panelOf (x .ledger))) (c .before .before .before .replay .ensures)
 
 pub figures-spec : {M : Type 1} → statement M
-figures-spec = tie.close (tie.spec replay-requires panel-requires returns)
+figures-spec = tie.close (tie.spec (λ c κs. search needs) (λ c κs. search needs) returns)

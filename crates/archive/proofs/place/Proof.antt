@@ -13,9 +13,6 @@ use Rattle.archive.proofs.Acceptance.{checked-tells}
 use Rattle.archive.proofs.place.Statement.{statement}
 use Rattle.archive.proofs.place.Tie as tie
 
-check-requires : tie.Need-check-requires
-check-requires c κs = search needs
-
 abbrev place-at : Pair → Place
 place-at p = record { number = 0; index = 0; start = p .0; length = p .1 }
 
@@ -24,9 +21,6 @@ zero c = ap (λ (x : Checked). x .number) (sym (c .before .before .check .ensure
 
 sizes : (c : tie.Else1) → Measured (c .before .before .before .before .args .archive .now)
 sizes c = measured (c .before .before .before .before .args .archive .now) (checked-tells (c .before .before .before .before .args .archive .now) (zero c) .headed)
-
-nowhere-requires : tie.Need-nowhere-requires
-nowhere-requires c κs = search needs
 
 returns : tie.Need-returns
 unfolding placeOf nowhere
@@ -39,9 +33,6 @@ returns c =
 
 section-count-requires : tie.Need-section-count-requires
 section-count-requires c κs = let m = sizes c in omega arith
-
-nowhere-requires-2 : tie.Need-nowhere-requires-2
-nowhere-requires-2 c κs = search needs
 
 returns-2 : tie.Need-returns-2
 unfolding placeOf nowhere
@@ -72,7 +63,7 @@ word-requires-2 c κs = let m = sizes (c .before .before .before) in omega arith
 returns-3 : tie.Need-returns-3
 unfolding placeOf
 returns-3 c =
-    let s = c .before .before .before .before .before .before .before .before in
+    let s : tie.Start = search in
     let a = s .args .archive .now in
     let i = s .args .i in
     let pair = pair-words a i (c .before .word .result) (c .word2 .result) (c .before .word .ensures .0) (c .word2 .ensures .0) in
@@ -84,11 +75,11 @@ pub place-spec : {M : Type 1} → statement M
 place-spec =
     tie.close
     (tie.spec
-    check-requires
-    nowhere-requires
+    (λ c κs. search needs)
+    (λ c κs. search needs)
     returns
     section-count-requires
-    nowhere-requires-2
+    (λ c κs. search needs)
     returns-2
     mul-word
     add-word

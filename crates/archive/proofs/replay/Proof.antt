@@ -15,17 +15,11 @@ use Rattle.archive.proofs.Headers.{Measured, measured}
 use Rattle.archive.proofs.replay.Statement.{statement}
 use Rattle.archive.proofs.replay.Tie as tie
 
-check-requires : tie.Need-check-requires
-check-requires c κs = search needs
-
 zero : (c : tie.Else1) → checked (c .before .before .before .before .args .archive .now) .number ≡ 0
 zero c = ap (λ (x : Checked). x .number) (sym (c .before .before .check .ensures)) ∙ c .if1 .left
 
 sizes : (c : tie.Else1) → Measured (c .before .before .before .before .args .archive .now)
 sizes c = measured (c .before .before .before .before .args .archive .now) (checked-tells (c .before .before .before .before .args .archive .now) (zero c) .headed)
-
-fresh-requires : tie.Need-fresh-requires
-fresh-requires c κs = search needs
 
 returns : tie.Need-returns
 unfolding replayed
@@ -56,9 +50,6 @@ part-post-all-start c = let m = sizes (c .before) in let n = c .section-count .e
 part-post-all-end : tie.Need-part-post-all-end
 part-post-all-end c = let m = sizes (c .before) in let n = c .section-count .ensures .0 in omega arith
 
-post-all-requires : tie.Need-post-all-requires
-post-all-requires c κs = search needs
-
 returns-2 : tie.Need-returns-2
 unfolding replayed
 returns-2 c =
@@ -73,8 +64,8 @@ pub replay-spec : {M : Type 1} → statement M
 replay-spec =
     tie.close
     (tie.spec
-    check-requires
-    fresh-requires
+    (λ c κs. search needs)
+    (λ c κs. search needs)
     returns
     section-count-requires
     mul-body
@@ -82,5 +73,5 @@ replay-spec =
     sub-post-all
     part-post-all-start
     part-post-all-end
-    post-all-requires
+    (λ c κs. search needs)
     returns-2)

@@ -8,21 +8,6 @@ use Rattle.archive.specs.Reading.{sectionAt}
 use Rattle.archive.proofs.section.Statement.{statement}
 use Rattle.archive.proofs.section.Tie as tie
 
-place-requires : tie.Need-place-requires
-place-requires c κs = search needs
-
-add-end : tie.Need-add-end
-add-end c = search needs
-
-sub-result : tie.Need-sub-result
-sub-result c = search needs
-
-part-result-start : tie.Need-part-result-start
-part-result-start c = search needs
-
-part-result-end : tie.Need-part-result-end
-part-result-end c = search needs
-
 returns : tie.Need-returns
 unfolding sectionAt
 returns c =
@@ -36,4 +21,4 @@ returns c =
 pub section-spec : {M : Type 1} → statement M
 section-spec =
     tie.close
-    (tie.spec place-requires add-end sub-result part-result-start part-result-end returns)
+    (tie.spec (λ c κs. search needs) (λ c. search needs) (λ c. search needs) (λ c. search needs) (λ c. search needs) returns)

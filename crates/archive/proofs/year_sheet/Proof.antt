@@ -13,17 +13,11 @@ use Rattle.archive.proofs.Headers.{Measured, measured}
 use Rattle.archive.proofs.year_sheet.Statement.{statement}
 use Rattle.archive.proofs.year_sheet.Tie as tie
 
-check-requires : tie.Need-check-requires
-check-requires c κs = search needs
-
 zero : (c : tie.Else1) → checked (c .before .before .before .before .args .archive .now) .number ≡ 0
 zero c = ap (λ (x : Checked). x .number) (sym (c .before .before .check .ensures)) ∙ c .if1 .left
 
 sizes : (c : tie.Else1) → Measured (c .before .before .before .before .args .archive .now)
 sizes c = measured (c .before .before .before .before .args .archive .now) (checked-tells (c .before .before .before .before .args .archive .now) (zero c) .headed)
-
-empty-sheet-requires : tie.Need-empty-sheet-requires
-empty-sheet-requires c κs = search needs
 
 returns : tie.Need-returns
 unfolding sheetOf cellAfter
@@ -52,9 +46,6 @@ part-sheet-of-start c = let m = sizes (c .before) in let n = c .section-count .e
 part-sheet-of-end : tie.Need-part-sheet-of-end
 part-sheet-of-end c = let m = sizes (c .before) in let n = c .section-count .ensures .0 in omega arith
 
-sheet-of-requires : tie.Need-sheet-of-requires
-sheet-of-requires c κs = search needs
-
 returns-2 : tie.Need-returns-2
 unfolding sheetOf
 returns-2 c =
@@ -67,8 +58,8 @@ pub year-sheet-spec : {M : Type 1} → statement M
 year-sheet-spec =
     tie.close
     (tie.spec
-    check-requires
-    empty-sheet-requires
+    (λ c κs. search needs)
+    (λ c κs. search needs)
     returns
     section-count-requires
     mul-body
@@ -76,5 +67,5 @@ year-sheet-spec =
     sub-sheet-of
     part-sheet-of-start
     part-sheet-of-end
-    sheet-of-requires
+    (λ c κs. search needs)
     returns-2)

@@ -14,24 +14,12 @@ use Rattle.ledger.proofs.bank.Tie as tie
 sixteen : (c : tie.Start) → length (c .args .t1 .accounts) ≡ 16
 sixteen c = search (needs, length-mapped)
 
-nothing-requires : tie.Need-nothing-requires
-nothing-requires c κs = search needs
-
 returns : tie.Need-returns
 unfolding bankOf accountAt openBank nobody noTotals noMarks
 returns c =
-    let s = c .before .before in
+    let s : tie.Start = search in
     let past : length (s .args .t1 .accounts) ≤ s .args .account = omega (arith, sixteen s) in
     rw (c .nothing .ensures, nothing-value, List·getD-eq-default (s .args .t1 .accounts) nobody past)
-
-mul-a : tie.Need-mul-a
-mul-a c = search needs
-
-element-copy-out-a : tie.Need-element-copy-out-a
-element-copy-out-a c = search needs
-
-open-bank-requires : tie.Need-open-bank-requires
-open-bank-requires c κs = search needs
 
 returns-2 : tie.Need-returns-2
 unfolding bankOf accountAt nobody noTotals noMarks
@@ -40,4 +28,4 @@ returns-2 c = c .open-bank .ensures .0
 pub bank-spec : {M : Type 1} → statement M
 bank-spec =
     tie.close
-    (tie.spec nothing-requires returns mul-a element-copy-out-a open-bank-requires returns-2)
+    (tie.spec (λ c κs. search needs) returns (λ c. search needs) (λ c. search needs) (λ c κs. search needs) returns-2)

@@ -10,12 +10,6 @@ returns : tie.Need-returns
 unfolding formNumber
 returns c = rw (ne-eqb (length (c .before .before .args .entry .now)) 32 (c .if1 .taken))
 
-decode-requires : tie.Need-decode-requires
-decode-requires c κs = search needs
-
-number-requires : tie.Need-number-requires
-number-requires c κs = search needs
-
 returns-2 : tie.Need-returns-2
 unfolding formNumber
 returns-2 c =
@@ -23,4 +17,4 @@ returns-2 c =
     (c .number .ensures ∙ ap entryNumber (c .before .decode .ensures))
 
 pub entry-number-spec : {M : Type 1} → statement M
-entry-number-spec = tie.close (tie.spec returns decode-requires number-requires returns-2)
+entry-number-spec = tie.close (tie.spec returns (λ c κs. search needs) (λ c κs. search needs) returns-2)

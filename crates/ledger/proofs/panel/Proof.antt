@@ -4,9 +4,6 @@ use Rattle.ledger.specs.Panel.{panelOf}
 use Rattle.ledger.proofs.panel.Statement.{statement}
 use Rattle.ledger.proofs.panel.Tie as tie
 
-in-range-requires : tie.Need-in-range-requires
-in-range-requires c κs = search needs
-
 open-banks-requires : tie.Need-open-banks-requires
 open-banks-requires c κs = sym (c .before .in-range .ensures) ∙ c .if1 .taken
 
@@ -19,4 +16,4 @@ unfolding panelOf
 returns-2 c = rw (sym (c .before .in-range .ensures) ∙ c .if1 .left)
 
 pub panel-spec : {M : Type 1} → statement M
-panel-spec = tie.close (tie.spec in-range-requires open-banks-requires returns returns-2)
+panel-spec = tie.close (tie.spec (λ c κs. search needs) open-banks-requires returns returns-2)

@@ -12,16 +12,10 @@ use Rattle.nedrulov.proofs.nedrulov_band.Tie as tie
 in-range : (month bcq : ℕ) → leb 1 month && leb month 12 && leb bcq 30000000 ≡ true → bcq ≤ 30000000
 in-range month bcq t = leb-true bcq 30000000 (and-right (leb 1 month && leb month 12) (leb bcq 30000000) t)
 
-minimum-requires : tie.Need-minimum-requires
-minimum-requires c κs = search needs
-
 percent-requires : tie.Need-percent-requires
 percent-requires c κs =
     let a = c .before .before .args in
     (c .minimum .ensures .1, in-range (a .month) (a .bcq) (c .before .if1 .taken))
-
-maximum-requires : tie.Need-maximum-requires
-maximum-requires c κs = search needs
 
 percent-requires-2 : tie.Need-percent-requires-2
 percent-requires-2 c κs =
@@ -46,9 +40,9 @@ pub nedrulov-band-spec : {M : Type 1} → statement M
 nedrulov-band-spec =
     tie.close
     (tie.spec
-    minimum-requires
+    (λ c κs. search needs)
     percent-requires
-    maximum-requires
+    (λ c κs. search needs)
     percent-requires-2
     returns
     returns-2)

@@ -12,23 +12,14 @@ returns : tie.Need-returns
 unfolding cellsAfter
 returns c = let h = lt-ltb (length (c .before .before .args .cells .now)) 192 (c .if1 .taken) in (rw h, rw h refl)
 
-year-sheet-requires : tie.Need-year-sheet-requires
-year-sheet-requires c κs = search needs
-
-put-cells-requires : tie.Need-put-cells-requires
-put-cells-requires c κs = search needs
-
-same-length : tie.Need-same-length
-same-length c = search needs
-
 returns-2 : tie.Need-returns-2
 unfolding cellsAfter
 returns-2 c =
-    let s = c .before .before .before .before .before .before in
+    let s : tie.Start = search in
     let d = s .args .cells .now in
     let h = le-ltb (length d) 192 (c .before .before .before .before .if1 .left) in
     (rw h, rw h (c .before .put-cells .ensures ∙ ap (λ (t : List (List Units)). cellsOf t ++ drop 192 d) (c .before .before .before .year-sheet .ensures)))
 
 pub nedrulov-year-sheet-spec : {M : Type 1} → statement M
 nedrulov-year-sheet-spec =
-    tie.close (tie.spec returns year-sheet-requires put-cells-requires same-length returns-2)
+    tie.close (tie.spec returns (λ c κs. search needs) (λ c κs. search needs) (λ c. search needs) returns-2)

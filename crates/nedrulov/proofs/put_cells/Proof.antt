@@ -44,29 +44,8 @@ abbrev μ-loop : tie.MeasureT-loop
 loop-holds : tie.Need-loop-holds Inv-loop μ-loop
 loop-holds c = (search needs, refl, paste-zero (c .args .cells .now) 0 (cellsOf (c .args .t1)))
 
-mul-bank : tie.Need-mul-bank Inv-loop μ-loop
-mul-bank c = search needs
-
-mul-bank-2 : tie.Need-mul-bank-2 Inv-loop μ-loop
-mul-bank-2 c = search needs
-
-index-1-bank : tie.Need-index-1-bank Inv-loop μ-loop
-index-1-bank c = search needs
-
-index-2-bank : tie.Need-index-2-bank Inv-loop μ-loop
-index-2-bank c = search needs
-
-mul-units : tie.Need-mul-units Inv-loop μ-loop
-mul-units c = search needs
-
 slice-set-from-units : tie.Need-slice-set-from-units Inv-loop μ-loop
 slice-set-from-units c = omega arith
-
-add-k : tie.Need-add-k Inv-loop μ-loop
-add-k c = search needs
-
-loop-less : tie.Need-loop-less Inv-loop μ-loop
-loop-less c = search needs
 
 loop-again : tie.Need-loop-again Inv-loop μ-loop
 unfolding nothing cellAt
@@ -78,9 +57,6 @@ loop-again c =
     let z = cellAt sheet (k / 12) (k % 12) .0 in
     let same : toZ w64 (ofZ w64 z) ≡ z = search needs in
     (omega arith, simp length-set (omega arith), ap (set (l .loop .cells) k) same ∙ cell-more sheet d (l .loop .cells) k (l .loop .inv .2) (omega arith) (omega arith))
-
-same-length : tie.Need-same-length Inv-loop μ-loop
-same-length c = search needs
 
 returns : tie.Need-returns Inv-loop μ-loop
 returns c =
@@ -96,14 +72,14 @@ put-cells-spec =
     Inv-loop
     μ-loop
     loop-holds
-    mul-bank
-    mul-bank-2
-    index-1-bank
-    index-2-bank
-    mul-units
+    (λ c. search needs)
+    (λ c. search needs)
+    (λ c. search needs)
+    (λ c. search needs)
+    (λ c. search needs)
     slice-set-from-units
-    add-k
-    loop-less
+    (λ c. search needs)
+    (λ c. search needs)
     loop-again
-    same-length
+    (λ c. search needs)
     returns)

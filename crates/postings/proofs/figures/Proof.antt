@@ -9,41 +9,17 @@ Inv-loop what l i₀ i = i ≤ 16
 abbrev μ-loop : tie.MeasureT-loop
 μ-loop what l i₀ i = 16 - i
 
-loop-holds : tie.Need-loop-holds Inv-loop μ-loop
-loop-holds c = search needs
-
-mul-a : tie.Need-mul-a Inv-loop μ-loop
-mul-a c = search needs
-
-element-copy-out-a : tie.Need-element-copy-out-a Inv-loop μ-loop
-element-copy-out-a c = search needs
-
-figure-requires : tie.Need-figure-requires Inv-loop μ-loop
-figure-requires c κs = search needs
-
-add-i : tie.Need-add-i Inv-loop μ-loop
-add-i c = search needs
-
-loop-less : tie.Need-loop-less Inv-loop μ-loop
-loop-less c = search needs
-
-loop-again : tie.Need-loop-again Inv-loop μ-loop
-loop-again c = search needs
-
-returns : tie.Need-returns Inv-loop μ-loop
-returns c = search needs
-
 pub figures-spec : {M : Type 1} → statement M
 figures-spec =
     tie.close
     (tie.spec
     Inv-loop
     μ-loop
-    loop-holds
-    mul-a
-    element-copy-out-a
-    figure-requires
-    add-i
-    loop-less
-    loop-again
-    returns)
+    (λ c. search needs)
+    (λ c. search needs)
+    (λ c. search needs)
+    (λ c κs. search needs)
+    (λ c. search needs)
+    (λ c. search needs)
+    (λ c. search needs)
+    (λ c. search needs))

@@ -5,18 +5,6 @@ use borrow.Author.Needs.{needs}
 use Rattle.rates.proofs.bill.Statement.{statement}
 use Rattle.rates.proofs.bill.Tie as tie
 
-in-range-requires : tie.Need-in-range-requires
-in-range-requires c κs = search needs
-
-returns : tie.Need-returns
-returns c = search needs
-
-in-range-requires-2 : tie.Need-in-range-requires-2
-in-range-requires-2 c κs = search needs
-
-returns-2 : tie.Need-returns-2
-returns-2 c = search needs
-
 bill-requires : tie.Need-bill-requires
 bill-requires c κs =
     let s = c .before .before .before .before in (
@@ -27,28 +15,16 @@ bill-requires c κs =
       (omega arith, (omega arith, omega arith)),
     )
 
-money-requires : tie.Need-money-requires
-money-requires c κs = search needs
-
-slice-aggregate-text : tie.Need-slice-aggregate-text
-slice-aggregate-text c = search needs
-
-text-requires : tie.Need-text-requires
-text-requires c κs = search needs
-
-returns-3 : tie.Need-returns-3
-returns-3 c = search needs
-
 pub bill-spec : {M : Type 1} → statement M
 bill-spec =
     tie.close
     (tie.spec
-    in-range-requires
-    returns
-    in-range-requires-2
-    returns-2
+    (λ c κs. search needs)
+    (λ c. search needs)
+    (λ c κs. search needs)
+    (λ c. search needs)
     bill-requires
-    money-requires
-    slice-aggregate-text
-    text-requires
-    returns-3)
+    (λ c κs. search needs)
+    (λ c. search needs)
+    (λ c κs. search needs)
+    (λ c. search needs))

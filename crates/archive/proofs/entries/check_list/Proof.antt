@@ -25,24 +25,6 @@ loop-holds c =
     let z : length s / 32 - 0 ≡ length s / 32 = omega arith in
     (search needs, refl, rw z)
 
-mul-at : tie.Need-mul-at Inv-loop μ-loop
-mul-at c = search needs
-
-add-end : tie.Need-add-end Inv-loop μ-loop
-add-end c = search needs
-
-sub-entry-number : tie.Need-sub-entry-number Inv-loop μ-loop
-sub-entry-number c = search needs
-
-part-entry-number-start : tie.Need-part-entry-number-start Inv-loop μ-loop
-part-entry-number-start c = search needs
-
-part-entry-number-end : tie.Need-part-entry-number-end Inv-loop μ-loop
-part-entry-number-end c = search needs
-
-entry-number-requires : tie.Need-entry-number-requires Inv-loop μ-loop
-entry-number-requires c κs = search needs
-
 returns : tie.Need-returns Inv-loop μ-loop
 unfolding finding
 returns c =
@@ -56,12 +38,6 @@ returns c =
     ∙ sym (refusal-here k (formNumber e) (map formNumber es) (λ z. c .if1 .taken (number ∙ z)))
     ∙ ap (λ xs. firstRefusal k (map formNumber xs)) (sym (entries-next (length s / 32) k s (omega arith)))
     ∙ l .loop .inv .2
-
-add-k : tie.Need-add-k Inv-loop μ-loop
-add-k c = search needs
-
-loop-less : tie.Need-loop-less Inv-loop μ-loop
-loop-less c = search needs
 
 loop-again : tie.Need-loop-again Inv-loop μ-loop
 loop-again c =
@@ -93,14 +69,14 @@ check-list-spec =
     Inv-loop
     μ-loop
     loop-holds
-    mul-at
-    add-end
-    sub-entry-number
-    part-entry-number-start
-    part-entry-number-end
-    entry-number-requires
+    (λ c. search needs)
+    (λ c. search needs)
+    (λ c. search needs)
+    (λ c. search needs)
+    (λ c. search needs)
+    (λ c κs. search needs)
     returns
-    add-k
-    loop-less
+    (λ c. search needs)
+    (λ c. search needs)
     loop-again
     returns-2)

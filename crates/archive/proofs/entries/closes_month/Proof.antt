@@ -4,12 +4,9 @@ use Rattle.archive.specs.Entries.{closesMonth}
 use Rattle.archive.proofs.entries.closes_month.Statement.{statement}
 use Rattle.archive.proofs.entries.closes_month.Tie as tie
 
-shared-slice-read-result : tie.Need-shared-slice-read-result
-shared-slice-read-result c = search needs
-
 returns : tie.Need-returns
 unfolding closesMonth
 returns c = rw (kind-byte (c .before .args .entry .now))
 
 pub closes-month-spec : {M : Type 1} → statement M
-closes-month-spec = tie.close (tie.spec shared-slice-read-result returns)
+closes-month-spec = tie.close (tie.spec (λ c. search needs) returns)

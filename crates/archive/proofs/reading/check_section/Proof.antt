@@ -27,30 +27,6 @@ loop-holds c =
     let i : first + 0 ≡ first = omega arith in
     (search needs, refl, rw (z, i))
 
-mul-at : tie.Need-mul-at Inv-loop μ-loop
-mul-at c = search needs
-
-add-end : tie.Need-add-end Inv-loop μ-loop
-add-end c = search needs
-
-add-ends : tie.Need-add-ends Inv-loop μ-loop
-add-ends c = search needs
-
-sub-number-in : tie.Need-sub-number-in Inv-loop μ-loop
-sub-number-in c = search needs
-
-part-number-in-start : tie.Need-part-number-in-start Inv-loop μ-loop
-part-number-in-start c = search needs
-
-part-number-in-end : tie.Need-part-number-in-end Inv-loop μ-loop
-part-number-in-end c = search needs
-
-number-in-requires : tie.Need-number-in-requires Inv-loop μ-loop
-number-in-requires c κs = search needs
-
-add-t16 : tie.Need-add-t16 Inv-loop μ-loop
-add-t16 c = search needs
-
 returns : tie.Need-returns Inv-loop μ-loop
 unfolding finding
 returns c =
@@ -66,12 +42,6 @@ returns c =
     ∙ sym (refusal-here (first + k) (numberIn (eqb (k + 1) n) last e) (numbersIn last (firstEntries (n - (k + 1)) (drop (32 * (k + 1)) s))) (λ z. c .if1 .taken (number ∙ z)))
     ∙ ap (firstRefusal (first + k)) (sym (numbers-next last n k s (omega arith)))
     ∙ l .loop .inv .2
-
-add-k : tie.Need-add-k Inv-loop μ-loop
-add-k c = search needs
-
-loop-less : tie.Need-loop-less Inv-loop μ-loop
-loop-less c = search needs
 
 loop-again : tie.Need-loop-again Inv-loop μ-loop
 loop-again c =
@@ -110,16 +80,16 @@ check-section-spec =
     Inv-loop
     μ-loop
     loop-holds
-    mul-at
-    add-end
-    add-ends
-    sub-number-in
-    part-number-in-start
-    part-number-in-end
-    number-in-requires
-    add-t16
+    (λ c. search needs)
+    (λ c. search needs)
+    (λ c. search needs)
+    (λ c. search needs)
+    (λ c. search needs)
+    (λ c. search needs)
+    (λ c κs. search needs)
+    (λ c. search needs)
     returns
-    add-k
-    loop-less
+    (λ c. search needs)
+    (λ c. search needs)
     loop-again
     returns-2)

@@ -65,15 +65,6 @@ add-word-2 c = let h = sizes (c .before .before .before .before) in omega arith
 word-requires-2 : tie.Need-word-requires-2 Inv-loop μ-loop
 word-requires-2 c κs = let h = sizes (c .before .before .before .before) in omega arith
 
-add-end : tie.Need-add-end Inv-loop μ-loop
-add-end c = search needs
-
-add-last : tie.Need-add-last Inv-loop μ-loop
-add-last c = search needs
-
-sub-check-section : tie.Need-sub-check-section Inv-loop μ-loop
-sub-check-section c = search needs
-
 part-check-section-start : tie.Need-part-check-section-start Inv-loop μ-loop
 part-check-section-start c = let h = held c in omega arith
 
@@ -101,15 +92,6 @@ returns c =
     let part = part-read a i o size (pair w) in
     let e = c .before .before .check-section .ensures ∙ ap (λ (x : List ℕ). firstRefusal (l .loop .first) (numbersIn (eqb (i + 1) n) (entriesOf x))) part in
     section-refuses a n i (l .loop .first) (omega arith) r e (c .if1 .taken) ∙ l .loop .inv .3
-
-add-first : tie.Need-add-first Inv-loop μ-loop
-add-first c = search needs
-
-add-i : tie.Need-add-i Inv-loop μ-loop
-add-i c = search needs
-
-loop-less : tie.Need-loop-less Inv-loop μ-loop
-loop-less c = search needs
 
 loop-again : tie.Need-loop-again Inv-loop μ-loop
 loop-again c =
@@ -153,15 +135,15 @@ check-sections-spec =
     mul-word-2
     add-word-2
     word-requires-2
-    add-end
-    add-last
-    sub-check-section
+    (λ c. search needs)
+    (λ c. search needs)
+    (λ c. search needs)
     part-check-section-start
     part-check-section-end
     check-section-requires
     returns
-    add-first
-    add-i
-    loop-less
+    (λ c. search needs)
+    (λ c. search needs)
+    (λ c. search needs)
     loop-again
     returns-2)

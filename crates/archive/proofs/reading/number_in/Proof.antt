@@ -8,9 +8,6 @@ use Rattle.archive.proofs.EntryPlaces.{place-test}
 use Rattle.archive.proofs.reading.number_in.Statement.{statement}
 use Rattle.archive.proofs.reading.number_in.Tie as tie
 
-entry-number-requires : tie.Need-entry-number-requires
-entry-number-requires c κs = search needs
-
 returns : tie.Need-returns
 unfolding numberIn
 returns c =
@@ -18,13 +15,10 @@ returns c =
     let number = c .before .entry-number .ensures in
     rw (ne-eqb (formNumber e) 0 (λ z. c .if1 .taken (number ∙ z))) number
 
-closes-month-requires : tie.Need-closes-month-requires
-closes-month-requires c κs = search needs
-
 returns-2 : tie.Need-returns-2
 unfolding numberIn
 returns-2 c =
-    let s = c .before .before .before .before .before in
+    let s : tie.Start = search in
     let e = s .args .entry .now in
     let right : formNumber e ≡ 0 = sym (c .before .before .before .entry-number .ensures) ∙ c .before .before .if1 .left in
     let test : misplaced (s .args .ends) (s .args .last) e ≡ true = sym (place-test (s .args .ends) (s .args .last) e) ∙ ap (λ (b : Bool). (b && not (s .args .ends)) || (not b && s .args .ends && not (s .args .last))) (sym (c .before .closes-month .ensures)) ∙ c .if2 .taken in
@@ -33,7 +27,7 @@ returns-2 c =
 returns-3 : tie.Need-returns-3
 unfolding numberIn
 returns-3 c =
-    let s = c .before .before .before .before .before in
+    let s : tie.Start = search in
     let e = s .args .entry .now in
     let right : formNumber e ≡ 0 = sym (c .before .before .before .entry-number .ensures) ∙ c .before .before .if1 .left in
     let test : misplaced (s .args .ends) (s .args .last) e ≡ false = sym (place-test (s .args .ends) (s .args .last) e) ∙ ap (λ (b : Bool). (b && not (s .args .ends)) || (not b && s .args .ends && not (s .args .last))) (sym (c .before .closes-month .ensures)) ∙ c .if2 .left in
@@ -41,4 +35,4 @@ returns-3 c =
 
 pub number-in-spec : {M : Type 1} → statement M
 number-in-spec =
-    tie.close (tie.spec entry-number-requires returns closes-month-requires returns-2 returns-3)
+    tie.close (tie.spec (λ c κs. search needs) returns (λ c κs. search needs) returns-2 returns-3)

@@ -25,12 +25,6 @@ sizes c = measured (c .before .args .archive .now) (c .before .pre)
 section-count-requires : tie.Need-section-count-requires Inv-loop μ-loop
 section-count-requires c κs = omega (arith, sizes c)
 
-mul-end : tie.Need-mul-end Inv-loop μ-loop
-mul-end c = search needs
-
-add-end : tie.Need-add-end Inv-loop μ-loop
-add-end c = search needs
-
 loop-holds : tie.Need-loop-holds Inv-loop μ-loop
 unfolding rightDirectory pairsOf bodyAt
 loop-holds c =
@@ -72,12 +66,6 @@ returns c =
 add-end-2 : tie.Need-add-end-2 Inv-loop μ-loop
 add-end-2 c = let h = sizes (c .before .before .before .before .before .before) in omega arith
 
-add-i : tie.Need-add-i Inv-loop μ-loop
-add-i c = search needs
-
-loop-less : tie.Need-loop-less Inv-loop μ-loop
-loop-less c = search needs
-
 loop-again : tie.Need-loop-again Inv-loop μ-loop
 loop-again c =
     let l = c .before .before .before .before in
@@ -110,8 +98,8 @@ right-directory-spec =
     Inv-loop
     μ-loop
     section-count-requires
-    mul-end
-    add-end
+    (λ c. search needs)
+    (λ c. search needs)
     loop-holds
     mul-word
     add-word
@@ -121,7 +109,7 @@ right-directory-spec =
     word-requires-2
     returns
     add-end-2
-    add-i
-    loop-less
+    (λ c. search needs)
+    (λ c. search needs)
     loop-again
     returns-2)

@@ -25,9 +25,6 @@ Inv-loop list n ledger₀ accepted₀ refused₀ k₀ ledger accepted refused k 
 abbrev μ-loop : tie.MeasureT-loop
 μ-loop list n ledger₀ accepted₀ refused₀ k₀ ledger accepted refused k = n - k
 
-fresh-requires : tie.Need-fresh-requires Inv-loop μ-loop
-fresh-requires c κs = search needs
-
 loop-holds : tie.Need-loop-holds Inv-loop μ-loop
 unfolding entriesOf
 loop-holds c =
@@ -42,42 +39,6 @@ loop-holds c =
       rw (z, l) (omega arith),
       rw (z, l),
     )
-
-mul-at : tie.Need-mul-at Inv-loop μ-loop
-mul-at c = search needs
-
-add-end : tie.Need-add-end Inv-loop μ-loop
-add-end c = search needs
-
-sub-post : tie.Need-sub-post Inv-loop μ-loop
-sub-post c = search needs
-
-part-post-start : tie.Need-part-post-start Inv-loop μ-loop
-part-post-start c = search needs
-
-part-post-end : tie.Need-part-post-end Inv-loop μ-loop
-part-post-end c = search needs
-
-post-requires : tie.Need-post-requires Inv-loop μ-loop
-post-requires c κs = search needs
-
-counted-requires : tie.Need-counted-requires Inv-loop μ-loop
-counted-requires c κs = search needs
-
-add-accepted : tie.Need-add-accepted Inv-loop μ-loop
-add-accepted c = search needs
-
-sub-refused : tie.Need-sub-refused Inv-loop μ-loop
-sub-refused c = search needs
-
-add-refused : tie.Need-add-refused Inv-loop μ-loop
-add-refused c = search needs
-
-add-k : tie.Need-add-k Inv-loop μ-loop
-add-k c = search needs
-
-loop-less : tie.Need-loop-less Inv-loop μ-loop
-loop-less c = search needs
 
 loop-again : tie.Need-loop-again Inv-loop μ-loop
 loop-again c =
@@ -116,19 +77,19 @@ post-all-spec =
     (tie.spec
     Inv-loop
     μ-loop
-    fresh-requires
+    (λ c κs. search needs)
     loop-holds
-    mul-at
-    add-end
-    sub-post
-    part-post-start
-    part-post-end
-    post-requires
-    counted-requires
-    add-accepted
-    sub-refused
-    add-refused
-    add-k
-    loop-less
+    (λ c. search needs)
+    (λ c. search needs)
+    (λ c. search needs)
+    (λ c. search needs)
+    (λ c. search needs)
+    (λ c κs. search needs)
+    (λ c κs. search needs)
+    (λ c. search needs)
+    (λ c. search needs)
+    (λ c. search needs)
+    (λ c. search needs)
+    (λ c. search needs)
     loop-again
     returns)

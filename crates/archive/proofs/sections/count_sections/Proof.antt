@@ -23,15 +23,6 @@ found c =
 loop-holds : tie.Need-loop-holds Inv-loop μ-loop
 loop-holds c = (search needs, refl, search needs, search needs, omega arith)
 
-sub-first-section : tie.Need-sub-first-section Inv-loop μ-loop
-sub-first-section c = search needs
-
-part-first-section-start : tie.Need-part-first-section-start Inv-loop μ-loop
-part-first-section-start c = search needs
-
-part-first-section-end : tie.Need-part-first-section-end Inv-loop μ-loop
-part-first-section-end c = search needs
-
 first-section-requires : tie.Need-first-section-requires Inv-loop μ-loop
 first-section-requires c κs =
     let l = c .before .before in
@@ -65,9 +56,9 @@ count-sections-spec =
     Inv-loop
     μ-loop
     loop-holds
-    sub-first-section
-    part-first-section-start
-    part-first-section-end
+    (λ c. search needs)
+    (λ c. search needs)
+    (λ c. search needs)
     first-section-requires
     add-at
     add-count

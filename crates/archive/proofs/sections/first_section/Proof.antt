@@ -21,36 +21,12 @@ loop-holds c =
     let z : length s / 32 - 0 ≡ length s / 32 = omega arith in
     (search needs, refl, rw z (omega arith))
 
-mul-at : tie.Need-mul-at Inv-loop μ-loop
-mul-at c = search needs
-
-add-end : tie.Need-add-end Inv-loop μ-loop
-add-end c = search needs
-
-sub-closes-month : tie.Need-sub-closes-month Inv-loop μ-loop
-sub-closes-month c = search needs
-
-part-closes-month-start : tie.Need-part-closes-month-start Inv-loop μ-loop
-part-closes-month-start c = search needs
-
-part-closes-month-end : tie.Need-part-closes-month-end Inv-loop μ-loop
-part-closes-month-end c = search needs
-
-closes-month-requires : tie.Need-closes-month-requires Inv-loop μ-loop
-closes-month-requires c κs = search needs
-
 returns : tie.Need-returns Inv-loop μ-loop
 returns c =
     let l = c .before .before .before .before in
     let s = l .before .before .args .list .now in
     let one = lead-here (length s / 32) (l .loop .k) s (omega arith) (sym (c .before .closes-month .ensures) ∙ c .if1 .taken) in
     rw (first-size s (omega arith)) (omega arith)
-
-add-k : tie.Need-add-k Inv-loop μ-loop
-add-k c = search needs
-
-loop-less : tie.Need-loop-less Inv-loop μ-loop
-loop-less c = search needs
 
 loop-again : tie.Need-loop-again Inv-loop μ-loop
 loop-again c =
@@ -73,14 +49,14 @@ first-section-spec =
     Inv-loop
     μ-loop
     loop-holds
-    mul-at
-    add-end
-    sub-closes-month
-    part-closes-month-start
-    part-closes-month-end
-    closes-month-requires
+    (λ c. search needs)
+    (λ c. search needs)
+    (λ c. search needs)
+    (λ c. search needs)
+    (λ c. search needs)
+    (λ c κs. search needs)
     returns
-    add-k
-    loop-less
+    (λ c. search needs)
+    (λ c. search needs)
     loop-again
     returns-2)

@@ -24,16 +24,10 @@ before (suc n) year h =
     let p : suc n - 1 ≡ n = omega arith in
     rw (p, add-one year) (sym (eqb·suc-suc n year))
 
-half-requires : tie.Need-half-requires
-half-requires c κs = search needs
-
-shared-slice-read-if1 : tie.Need-shared-slice-read-if1
-shared-slice-read-if1 c = search needs
-
 returns : tie.Need-returns
 unfolding inGasYear
 returns c =
-    let start = c .before .before .before .before in
+    let start : tie.Start = search in
     let s = start .args .entry .now in
     let h = c .before .before .half in
     rw (dated s (h .result) (start .pre) (h .ensures .0), month-byte s, le-leb 4 (getD s 6 0) (c .if1 .taken))
@@ -41,20 +35,17 @@ returns c =
 returns-2 : tie.Need-returns-2
 unfolding inGasYear
 returns-2 c =
-    let start = c .before .before .before .before .before in
+    let start : tie.Start = search in
     let s = start .args .entry .now in
     let h = c .before .before .before .half in
     let z = c .if2 .taken in
     rw (dated s (h .result) (start .pre) (h .ensures .0), month-byte s, lt-leb 4 (getD s 6 0) (c .before .if1 .left))
     (sym (ne-eqb (h .result) (start .args .year + 1) (λ e. omega arith)))
 
-sub-result : tie.Need-sub-result
-sub-result c = search needs
-
 returns-3 : tie.Need-returns-3
 unfolding inGasYear
 returns-3 c =
-    let start = c .before .before .before .before .before in
+    let start : tie.Start = search in
     let s = start .args .entry .now in
     let h = c .before .before .before .half in
     rw (dated s (h .result) (start .pre) (h .ensures .0), month-byte s, lt-leb 4 (getD s 6 0) (c .before .if1 .left))
@@ -62,4 +53,4 @@ returns-3 c =
 
 pub in-gas-year-spec : {M : Type 1} → statement M
 in-gas-year-spec =
-    tie.close (tie.spec half-requires shared-slice-read-if1 returns returns-2 sub-result returns-3)
+    tie.close (tie.spec (λ c κs. search needs) (λ c. search needs) returns returns-2 (λ c. search needs) returns-3)

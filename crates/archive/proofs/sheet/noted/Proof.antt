@@ -35,29 +35,23 @@ module _ (year number : ℕ) (e : List ℕ) where
 
 returns : tie.Need-returns
 returns c =
-    let start = c .before .before in
+    let start : tie.Start = search in
     let a = start .args in
     let e = a .entry .now in
     start .pre .0
     ∙ no-column (bankIn (a .ledger)) (cellAt (a .sheet)) (λ m. closesIn (a .year) m (a .number) e) (refused (a .year) (a .number) e (c .if1 .taken))
 
-closes-month-requires : tie.Need-closes-month-requires
-closes-month-requires c κs = search needs
-
 returns-2 : tie.Need-returns-2
 returns-2 c =
-    let start = c .before .before .before .before in
+    let start : tie.Start = search in
     let a = start .args in
     let e = a .entry .now in
     start .pre .0
     ∙ no-column (bankIn (a .ledger)) (cellAt (a .sheet)) (λ m. closesIn (a .year) m (a .number) e) (other-kind (a .year) (a .number) e (c .before .before .if1 .left) (sym (c .before .closes-month .ensures) ∙ not-true (c .before .closes-month .result) (c .if2 .taken)))
 
-in-gas-year-requires : tie.Need-in-gas-year-requires
-in-gas-year-requires c κs = search needs
-
 returns-3 : tie.Need-returns-3
 returns-3 c =
-    let start = c .before .before .before .before .before .before in
+    let start : tie.Start = search in
     let a = start .args in
     let e = a .entry .now in
     let kind = c .before .before .before .closes-month in
@@ -65,17 +59,8 @@ returns-3 c =
     start .pre .0
     ∙ no-column (bankIn (a .ledger)) (cellAt (a .sheet)) (λ m. closesIn (a .year) m (a .number) e) (other-year (a .year) (a .number) e (c .before .before .before .before .if1 .left) (sym (kind .ensures) ∙ not-false (kind .result) (c .before .before .if2 .left)) (sym (year .ensures) ∙ not-true (year .result) (c .if3 .taken)))
 
-shared-slice-read-t10 : tie.Need-shared-slice-read-t10
-shared-slice-read-t10 c = search needs
-
 cast-t11 : tie.Need-cast-t11
 cast-t11 c = omega (arith, c .shared-slice-known2 .given 6)
-
-gas-month-requires : tie.Need-gas-month-requires
-gas-month-requires c κs = search needs
-
-with-column-requires : tie.Need-with-column-requires
-with-column-requires c κs = search needs
 
 returns-4 : tie.Need-returns-4
 returns-4 c =
@@ -94,12 +79,12 @@ noted-spec =
     tie.close
     (tie.spec
     returns
-    closes-month-requires
+    (λ c κs. search needs)
     returns-2
-    in-gas-year-requires
+    (λ c κs. search needs)
     returns-3
-    shared-slice-read-t10
+    (λ c. search needs)
     cast-t11
-    gas-month-requires
-    with-column-requires
+    (λ c κs. search needs)
+    (λ c κs. search needs)
     returns-4)

@@ -23,12 +23,6 @@ Inv-loop list year n ledger₀ sheet₀ k₀ ledger sheet k =
 abbrev μ-loop : tie.MeasureT-loop
 μ-loop list year n ledger₀ sheet₀ k₀ ledger sheet k = n - k
 
-fresh-requires : tie.Need-fresh-requires Inv-loop μ-loop
-fresh-requires c κs = search needs
-
-empty-sheet-requires : tie.Need-empty-sheet-requires Inv-loop μ-loop
-empty-sheet-requires c κs = search needs
-
 loop-holds : tie.Need-loop-holds Inv-loop μ-loop
 unfolding entriesOf
 loop-holds c =
@@ -43,41 +37,8 @@ loop-holds c =
       rw z (after-all (a .year) (sheet .result) (ledger .result) (firstEntries (length s / 32) s) (sheet .ensures) (ledger .ensures)),
     )
 
-mul-at : tie.Need-mul-at Inv-loop μ-loop
-mul-at c = search needs
-
-add-end : tie.Need-add-end Inv-loop μ-loop
-add-end c = search needs
-
-sub-post : tie.Need-sub-post Inv-loop μ-loop
-sub-post c = search needs
-
-part-post-start : tie.Need-part-post-start Inv-loop μ-loop
-part-post-start c = search needs
-
-part-post-end : tie.Need-part-post-end Inv-loop μ-loop
-part-post-end c = search needs
-
-post-requires : tie.Need-post-requires Inv-loop μ-loop
-post-requires c κs = search needs
-
-sub-noted : tie.Need-sub-noted Inv-loop μ-loop
-sub-noted c = search needs
-
-part-noted-start : tie.Need-part-noted-start Inv-loop μ-loop
-part-noted-start c = search needs
-
-part-noted-end : tie.Need-part-noted-end Inv-loop μ-loop
-part-noted-end c = search needs
-
 noted-requires : tie.Need-noted-requires Inv-loop μ-loop
 noted-requires c κs = (c .before .before .before .before .before .before .loop .inv .2, simp (length-take, length-drop) (omega arith))
-
-add-k : tie.Need-add-k Inv-loop μ-loop
-add-k c = search needs
-
-loop-less : tie.Need-loop-less Inv-loop μ-loop
-loop-less c = search needs
 
 loop-again : tie.Need-loop-again Inv-loop μ-loop
 loop-again c =
@@ -115,20 +76,20 @@ sheet-of-spec =
     (tie.spec
     Inv-loop
     μ-loop
-    fresh-requires
-    empty-sheet-requires
+    (λ c κs. search needs)
+    (λ c κs. search needs)
     loop-holds
-    mul-at
-    add-end
-    sub-post
-    part-post-start
-    part-post-end
-    post-requires
-    sub-noted
-    part-noted-start
-    part-noted-end
+    (λ c. search needs)
+    (λ c. search needs)
+    (λ c. search needs)
+    (λ c. search needs)
+    (λ c. search needs)
+    (λ c κs. search needs)
+    (λ c. search needs)
+    (λ c. search needs)
+    (λ c. search needs)
     noted-requires
-    add-k
-    loop-less
+    (λ c. search needs)
+    (λ c. search needs)
     loop-again
     returns)

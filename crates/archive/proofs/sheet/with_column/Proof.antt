@@ -21,27 +21,6 @@ loop-holds c =
     let a = c .args in
     (search needs, c .pre .0 ∙ filled-none (bankIn (a .ledger)) (cellAt (a .sheet)) (a .month))
 
-bank-requires : tie.Need-bank-requires Inv-loop μ-loop
-bank-requires c κs = search needs
-
-mul-bank : tie.Need-mul-bank Inv-loop μ-loop
-mul-bank c = search needs
-
-mul-bank-2 : tie.Need-mul-bank-2 Inv-loop μ-loop
-mul-bank-2 c = search needs
-
-index-1-bank : tie.Need-index-1-bank Inv-loop μ-loop
-index-1-bank c = search needs
-
-index-2-bank : tie.Need-index-2-bank Inv-loop μ-loop
-index-2-bank c = search needs
-
-add-i : tie.Need-add-i Inv-loop μ-loop
-add-i c = search needs
-
-loop-less : tie.Need-loop-less Inv-loop μ-loop
-loop-less c = search needs
-
 loop-again : tie.Need-loop-again Inv-loop μ-loop
 unfolding bankIn
 loop-again c =
@@ -65,12 +44,12 @@ with-column-spec =
     Inv-loop
     μ-loop
     loop-holds
-    bank-requires
-    mul-bank
-    mul-bank-2
-    index-1-bank
-    index-2-bank
-    add-i
-    loop-less
+    (λ c κs. search needs)
+    (λ c. search needs)
+    (λ c. search needs)
+    (λ c. search needs)
+    (λ c. search needs)
+    (λ c. search needs)
+    (λ c. search needs)
     loop-again
     returns)

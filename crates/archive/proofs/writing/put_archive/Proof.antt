@@ -61,9 +61,6 @@ put-sections-requires c κs =
     let x = listed (c .before .before .before) in
     (w .0, omega arith)
 
-same-length : tie.Need-same-length
-same-length c = search needs
-
 returns : tie.Need-returns
 returns c =
     let s = c .before .before .before .before .before .before .before .before .before .before .before .before .before .before .before in
@@ -79,5 +76,5 @@ put-archive-spec =
     put-header-requires
     put-directory-requires
     put-sections-requires
-    same-length
+    (λ c. search needs)
     returns)

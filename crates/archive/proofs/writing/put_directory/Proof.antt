@@ -26,12 +26,6 @@ Inv-loop out₀ list count n body at₀ done₀ out at done =
 abbrev μ-loop : tie.MeasureT-loop
 μ-loop out₀ list count n body at₀ done₀ out at done = n - at
 
-mul-first : tie.Need-mul-first Inv-loop μ-loop
-mul-first c = search needs
-
-add-first : tie.Need-add-first Inv-loop μ-loop
-add-first c = search needs
-
 found : (c : tie.After-first-section Inv-loop μ-loop) → FirstAt (c .before .before .before .before .before .before .args .list .now) (c .before .before .before .loop .at) (c .first-section .result)
 found c =
     let l = c .before .before .before in
@@ -51,15 +45,6 @@ loop-holds c =
       rw z,
       omega arith,
     )
-
-sub-first-section : tie.Need-sub-first-section Inv-loop μ-loop
-sub-first-section c = search needs
-
-part-first-section-start : tie.Need-part-first-section-start Inv-loop μ-loop
-part-first-section-start c = search needs
-
-part-first-section-end : tie.Need-part-first-section-end Inv-loop μ-loop
-part-first-section-end c = search needs
 
 first-section-requires : tie.Need-first-section-requires Inv-loop μ-loop
 first-section-requires c κs =
@@ -120,9 +105,6 @@ loop-again c =
       omega arith,
     )
 
-same-length : tie.Need-same-length Inv-loop μ-loop
-same-length c = search needs
-
 returns : tie.Need-returns Inv-loop μ-loop
 returns c =
     let l = c .before in
@@ -138,12 +120,12 @@ put-directory-spec =
     (tie.spec
     Inv-loop
     μ-loop
-    mul-first
-    add-first
+    (λ c. search needs)
+    (λ c. search needs)
     loop-holds
-    sub-first-section
-    part-first-section-start
-    part-first-section-end
+    (λ c. search needs)
+    (λ c. search needs)
+    (λ c. search needs)
     first-section-requires
     add-put-word
     add-put-word-2
@@ -154,5 +136,5 @@ put-directory-spec =
     add-done
     loop-less
     loop-again
-    same-length
+    (λ c. search needs)
     returns)

@@ -9,9 +9,6 @@ use Rattle.archive.specs.Words.{bytesOf}
 use Rattle.archive.proofs.writing.put_header.Statement.{statement}
 use Rattle.archive.proofs.writing.put_header.Tie as tie
 
-slice-write-out : tie.Need-slice-write-out
-slice-write-out c = search needs
-
 slice-write-out-2 : tie.Need-slice-write-out-2
 slice-write-out-2 c = simp length-set (omega arith)
 
@@ -21,14 +18,8 @@ slice-write-out-3 c = simp length-set (omega arith)
 slice-write-out-4 : tie.Need-slice-write-out-4
 slice-write-out-4 c = simp length-set (omega arith)
 
-cast-out : tie.Need-cast-out
-cast-out c = search needs
-
 slice-write-out-5 : tie.Need-slice-write-out-5
 slice-write-out-5 c = simp length-set (omega arith)
-
-cast-out-2 : tie.Need-cast-out-2
-cast-out-2 c = search needs
 
 slice-write-out-6 : tie.Need-slice-write-out-6
 slice-write-out-6 c = simp length-set (omega arith)
@@ -39,9 +30,6 @@ slice-write-out-7 c = simp length-set (omega arith)
 slice-write-out-8 : tie.Need-slice-write-out-8
 slice-write-out-8 c = simp length-set (omega arith)
 
-same-length : tie.Need-same-length
-same-length c = search needs
-
 returns : tie.Need-returns
 unfolding header bytesOf
 returns c = let s = c .args .out .now in let n = c .args .count in sets-eq (69 ∷ 70 ∷ 66 ∷ 49 ∷ n % 256 ∷ n / 256 % 256 ∷ 0 ∷ 0 ∷ []) s 0 (omega arith)
@@ -50,15 +38,15 @@ pub put-header-spec : {M : Type 1} → statement M
 put-header-spec =
     tie.close
     (tie.spec
-    slice-write-out
+    (λ c. search needs)
     slice-write-out-2
     slice-write-out-3
     slice-write-out-4
-    cast-out
+    (λ c. search needs)
     slice-write-out-5
-    cast-out-2
+    (λ c. search needs)
     slice-write-out-6
     slice-write-out-7
     slice-write-out-8
-    same-length
+    (λ c. search needs)
     returns)

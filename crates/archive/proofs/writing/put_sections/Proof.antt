@@ -24,15 +24,6 @@ found c =
 loop-holds : tie.Need-loop-holds Inv-loop μ-loop
 loop-holds c = (search needs, refl, search needs, paste-zero (c .before .before .args .out .now) (c .before .before .args .body) (c .before .before .args .list .now), refl)
 
-sub-first-section : tie.Need-sub-first-section Inv-loop μ-loop
-sub-first-section c = search needs
-
-part-first-section-start : tie.Need-part-first-section-start Inv-loop μ-loop
-part-first-section-start c = search needs
-
-part-first-section-end : tie.Need-part-first-section-end Inv-loop μ-loop
-part-first-section-end c = search needs
-
 first-section-requires : tie.Need-first-section-requires Inv-loop μ-loop
 first-section-requires c κs =
     let l = c .before .before in
@@ -82,9 +73,6 @@ loop-again c =
     let t = section-stored d s (l .loop .out) (c .before .before .copy .last .1 .0) body (l .loop .at) (g .first-section .result) (l .loop .inv .3) (omega arith) (f .within) (c .before .before .copy .ensures .1) in
     (omega arith, refl, omega arith, t, ap length t ∙ length-paste d body s (l .loop .at + g .first-section .result) (omega arith) (omega arith))
 
-same-length : tie.Need-same-length Inv-loop μ-loop
-same-length c = search needs
-
 returns : tie.Need-returns Inv-loop μ-loop
 returns c =
     let l = c .before in
@@ -98,9 +86,9 @@ put-sections-spec =
     Inv-loop
     μ-loop
     loop-holds
-    sub-first-section
-    part-first-section-start
-    part-first-section-end
+    (λ c. search needs)
+    (λ c. search needs)
+    (λ c. search needs)
     first-section-requires
     add-end
     add-offset
@@ -113,5 +101,5 @@ put-sections-spec =
     copy-requires
     loop-less
     loop-again
-    same-length
+    (λ c. search needs)
     returns)

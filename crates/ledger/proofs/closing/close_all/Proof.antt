@@ -68,17 +68,8 @@ in-force s =
     begun-ranged (s .args .t1) (is-ranged (s .args .t1) (s .args .e) (s .pre .0))
     (is-begun (s .args .t1) (s .args .e) (s .pre .0) (λ z. omega (arith, z, s .pre .1))) .1
 
-quiet-requires : tie.Need-quiet-requires Inv-loop μ-loop
-quiet-requires c κs = search needs
-
 loop-holds : tie.Need-loop-holds Inv-loop μ-loop
 loop-holds c = (search needs, refl, rw (c .quiet .ensures), refl, refl)
-
-mul-a : tie.Need-mul-a Inv-loop μ-loop
-mul-a c = search needs
-
-element-copy-out-a : tie.Need-element-copy-out-a Inv-loop μ-loop
-element-copy-out-a c = search needs
 
 ranged : (r : tie.Start Inv-loop μ-loop) (i : ℕ) → i < 16 → accountInRange (accountAt (r .args .t1) i) ≡ true
 ranged r i h = account-ranged (r .args .t1) i (sixteen r) h (is-ranged (r .args .t1) (r .args .e) (r .pre .0))
@@ -97,31 +88,7 @@ close-account-requires c κs =
     )
 
 complete-requires : tie.Need-complete-requires Inv-loop μ-loop
-complete-requires c κs = let r = c .before .before .before .before .before .before .before .before .before .before .before in is-real (r .args .t1) (r .args .e) (r .pre .0)
-
-account-in-range-requires : tie.Need-account-in-range-requires Inv-loop μ-loop
-account-in-range-requires c κs = search needs
-
-account-in-range-requires-2 : tie.Need-account-in-range-requires-2 Inv-loop μ-loop
-account-in-range-requires-2 c κs = search needs
-
-mul-account : tie.Need-mul-account Inv-loop μ-loop
-mul-account c = search needs
-
-element-set-from-account : tie.Need-element-set-from-account Inv-loop μ-loop
-element-set-from-account c = search needs
-
-mul-reports : tie.Need-mul-reports Inv-loop μ-loop
-mul-reports c = search needs
-
-array-set-from-reports : tie.Need-array-set-from-reports Inv-loop μ-loop
-array-set-from-reports c = search needs
-
-add-i : tie.Need-add-i Inv-loop μ-loop
-add-i c = search needs
-
-loop-less : tie.Need-loop-less Inv-loop μ-loop
-loop-less c = search needs
+complete-requires c κs = let r : tie.Start Inv-loop μ-loop = search in is-real (r .args .t1) (r .args .e) (r .pre .0)
 
 loop-again : tie.Need-loop-again Inv-loop μ-loop
 unfolding nobody noTotals noMarks accountAt accountClosed reportOf staysInRange
@@ -153,7 +120,7 @@ loop-again c =
 
 day-after-requires : tie.Need-day-after-requires Inv-loop μ-loop
 day-after-requires c κs =
-    let r = c .before .before .before .before .before in
+    let r : tie.Start Inv-loop μ-loop = search in
     is-real (r .args .t1) (r .args .e) (r .pre .0)
 
 returns : tie.Need-returns Inv-loop μ-loop
@@ -179,20 +146,20 @@ close-all-spec =
     (tie.spec
     Inv-loop
     μ-loop
-    quiet-requires
+    (λ c κs. search needs)
     loop-holds
-    mul-a
-    element-copy-out-a
+    (λ c. search needs)
+    (λ c. search needs)
     close-account-requires
     complete-requires
-    account-in-range-requires
-    account-in-range-requires-2
-    mul-account
-    element-set-from-account
-    mul-reports
-    array-set-from-reports
-    add-i
-    loop-less
+    (λ c κs. search needs)
+    (λ c κs. search needs)
+    (λ c. search needs)
+    (λ c. search needs)
+    (λ c. search needs)
+    (λ c. search needs)
+    (λ c. search needs)
+    (λ c. search needs)
     loop-again
     day-after-requires
     returns)

@@ -3,15 +3,6 @@ use Rattle.ledger.specs.Closing.{closedDay, dayClosed}
 use Rattle.ledger.proofs.closing.close_day.Statement.{statement}
 use Rattle.ledger.proofs.closing.close_day.Tie as tie
 
-violations-requires : tie.Need-violations-requires
-violations-requires c κs = search needs
-
-cash-at-requires : tie.Need-cash-at-requires
-cash-at-requires c κs = search needs
-
-day-end-requires : tie.Need-day-end-requires
-day-end-requires c κs = search needs
-
 returns : tie.Need-returns
 unfolding closedDay dayClosed
 returns c = rw (
@@ -21,4 +12,4 @@ returns c = rw (
 )
 
 pub close-day-spec : {M : Type 1} → statement M
-close-day-spec = tie.close (tie.spec violations-requires cash-at-requires day-end-requires returns)
+close-day-spec = tie.close (tie.spec (λ c κs. search needs) (λ c κs. search needs) (λ c κs. search needs) returns)

@@ -11,15 +11,6 @@ left c =
     rw (c .day-end .ensures)
     (closable (s .args .d) (c .before .before .violations .result) (c .before .cash-at .result) (s .args .a) (s .pre .0 .1) (s .pre .0 .2) (c .before .cash-at .ensures .1))
 
-violations-requires : tie.Need-violations-requires
-violations-requires c κs = search needs
-
-cash-at-requires : tie.Need-cash-at-requires
-cash-at-requires c κs = search needs
-
-day-end-requires : tie.Need-day-end-requires
-day-end-requires c κs = search needs
-
 next-capacity-requires : tie.Need-next-capacity-requires
 next-capacity-requires c κs = (c .before .before .before .before .pre .1 .0, left c .pending)
 
@@ -53,9 +44,9 @@ pub close-month-spec : {M : Type 1} → statement M
 close-month-spec =
     tie.close
     (tie.spec
-    violations-requires
-    cash-at-requires
-    day-end-requires
+    (λ c κs. search needs)
+    (λ c κs. search needs)
+    (λ c κs. search needs)
     next-capacity-requires
     bill-requires
     forfeit-requires

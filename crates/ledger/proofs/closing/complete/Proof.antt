@@ -3,12 +3,6 @@ use Rattle.ledger.specs.Closing.{complete}
 use Rattle.ledger.proofs.closing.complete.Statement.{statement}
 use Rattle.ledger.proofs.closing.complete.Tie as tie
 
-on-measurement-day-requires : tie.Need-on-measurement-day-requires
-on-measurement-day-requires c κs = search needs
-
-last-of-month-requires : tie.Need-last-of-month-requires
-last-of-month-requires c κs = search needs
-
 returns : tie.Need-returns
 unfolding complete
 returns c = rw (
@@ -17,4 +11,4 @@ returns c = rw (
 )
 
 pub complete-spec : {M : Type 1} → statement M
-complete-spec = tie.close (tie.spec on-measurement-day-requires last-of-month-requires returns)
+complete-spec = tie.close (tie.spec (λ c κs. search needs) (λ c κs. search needs) returns)

@@ -5,16 +5,16 @@ use Rattle.ledger.proofs.closing.day_end.Statement.{statement}
 use Rattle.ledger.proofs.closing.day_end.Tie as tie
 
 plus-requires : tie.Need-plus-requires
-plus-requires c κs = let s = c .before in let b = bounded (s .args .a) (s .pre .0) in omega (arith, b .bank, s .pre .1)
+plus-requires c κs = let s : tie.Start = search in let b = bounded (s .args .a) (s .pre .0) in omega (arith, b .bank, s .pre .1)
 
 with-cash-requires : tie.Need-with-cash-requires
-with-cash-requires c κs = let s = c .before .before in let b = bounded (s .args .a) (s .pre .0) in (b .month .cash-ins, b .month .cash-outs, s .pre .1)
+with-cash-requires c κs = let s : tie.Start = search in let b = bounded (s .args .a) (s .pre .0) in (b .month .cash-ins, b .month .cash-outs, s .pre .1)
 
 day-marks-requires : tie.Need-day-marks-requires
-day-marks-requires c κs = let s = c .before .before .before in let b = bounded (s .args .a) (s .pre .0) in b .bcq
+day-marks-requires c κs = let s : tie.Start = search in let b = bounded (s .args .a) (s .pre .0) in b .bcq
 
 days-requires : tie.Need-days-requires
-days-requires c κs = let s = c .before .before .before .before in let b = bounded (s .args .a) (s .pre .0) in b .days
+days-requires c κs = let s : tie.Start = search in let b = bounded (s .args .a) (s .pre .0) in b .days
 
 returns : tie.Need-returns
 unfolding dayEnd

@@ -12,11 +12,8 @@ none-more n = omega arith
 returns : tie.Need-returns
 returns c = rw (c .if1 .taken) (none-more _)
 
-add-result : tie.Need-add-result
-add-result c = search needs
-
 returns-2 : tie.Need-returns-2
 returns-2 c = rw (ne-eqb (c .before .args .mask) 0 (c .if1 .left))
 
 pub days-spec : {M : Type 1} → statement M
-days-spec = tie.close (tie.spec returns add-result returns-2)
+days-spec = tie.close (tie.spec returns (λ c. search needs) returns-2)

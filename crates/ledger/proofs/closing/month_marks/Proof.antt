@@ -4,12 +4,6 @@ use Rattle.ledger.specs.State.{noMarks}
 use Rattle.ledger.proofs.closing.month_marks.Statement.{statement}
 use Rattle.ledger.proofs.closing.month_marks.Tie as tie
 
-falls-requires : tie.Need-falls-requires
-falls-requires c κs = search needs
-
-no-marks-requires : tie.Need-no-marks-requires
-no-marks-requires c κs = search needs
-
 returns : tie.Need-returns
 unfolding monthMarks noMarks
 returns c = rw (
@@ -18,4 +12,4 @@ returns c = rw (
 )
 
 pub month-marks-spec : {M : Type 1} → statement M
-month-marks-spec = tie.close (tie.spec falls-requires no-marks-requires returns)
+month-marks-spec = tie.close (tie.spec (λ c κs. search needs) (λ c κs. search needs) returns)

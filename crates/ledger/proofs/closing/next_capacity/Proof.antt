@@ -4,12 +4,9 @@ use Rattle.tariff.proofs.Laws.{settled-k}
 use Rattle.ledger.proofs.closing.next_capacity.Statement.{statement}
 use Rattle.ledger.proofs.closing.next_capacity.Tie as tie
 
-settled-requires : tie.Need-settled-requires
-settled-requires c κs = search needs
-
 capacity-requires : tie.Need-capacity-requires
 capacity-requires c κs =
-    let s = c .before in
+    let s : tie.Start = search in
     (s .pre .0, rw (c .settled .ensures, settled-k (s .args .a .step)) (s .pre .1))
 
 returns : tie.Need-returns
@@ -17,4 +14,4 @@ unfolding nextCapacity
 returns c = (rw (c .capacity .ensures .0, c .before .settled .ensures), c .capacity .ensures .1 .1)
 
 pub next-capacity-spec : {M : Type 1} → statement M
-next-capacity-spec = tie.close (tie.spec settled-requires capacity-requires returns)
+next-capacity-spec = tie.close (tie.spec (λ c κs. search needs) capacity-requires returns)

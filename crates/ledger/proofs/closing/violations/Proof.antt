@@ -6,28 +6,22 @@ use Rattle.ledger.proofs.closing.violations.Statement.{statement}
 use Rattle.ledger.proofs.closing.violations.Tie as tie
 
 limit-requires : tie.Need-limit-requires
-limit-requires c κs = let s = c .before .before .before .before in let b = bounded (s .args .a) (s .pre .1) in b .bcq
+limit-requires c κs = let s : tie.Start = search in let b = bounded (s .args .a) (s .pre .1) in b .bcq
 
 breaks-v3-requires : tie.Need-breaks-v3-requires
-breaks-v3-requires c κs = let s = c .before .before .before .before .before in let b = bounded (s .args .a) (s .pre .1) in b .bcq
+breaks-v3-requires c κs = let s : tie.Start = search in let b = bounded (s .args .a) (s .pre .1) in b .bcq
 
 breaks-v4-requires : tie.Need-breaks-v4-requires
-breaks-v4-requires c κs = let s = c .before .before .before .before .before .before in let b = bounded (s .args .a) (s .pre .1) in omega (arith, c .before .limit .ensures .1, b .month .net)
+breaks-v4-requires c κs = let s : tie.Start = search in let b = bounded (s .args .a) (s .pre .1) in omega (arith, c .before .limit .ensures .1, b .month .net)
 
 breaks-v5-requires : tie.Need-breaks-v5-requires
-breaks-v5-requires c κs = let s = c .before .before .before .before .before .before .before in let b = bounded (s .args .a) (s .pre .1) in (s .pre .0, b .bcq, b .month .net)
+breaks-v5-requires c κs = let s : tie.Start = search in let b = bounded (s .args .a) (s .pre .1) in (s .pre .0, b .bcq, b .month .net)
 
 breaks-v6-requires : tie.Need-breaks-v6-requires
-breaks-v6-requires c κs = let s = c .before .before .before .before .before .before .before .before in let b = bounded (s .args .a) (s .pre .1) in b .bcq
-
-breaks-v7-requires : tie.Need-breaks-v7-requires
-breaks-v7-requires c κs = search needs
+breaks-v6-requires c κs = let s : tie.Start = search in let b = bounded (s .args .a) (s .pre .1) in b .bcq
 
 breaks-v8-requires : tie.Need-breaks-v8-requires
-breaks-v8-requires c κs = let s = c .before .before .before .before .before .before .before .before .before .before in let b = bounded (s .args .a) (s .pre .1) in b .bcq
-
-mask-requires : tie.Need-mask-requires
-mask-requires c κs = search needs
+breaks-v8-requires c κs = let s : tie.Start = search in let b = bounded (s .args .a) (s .pre .1) in b .bcq
 
 returns : tie.Need-returns
 unfolding violationsOf
@@ -51,7 +45,7 @@ violations-spec =
     breaks-v4-requires
     breaks-v5-requires
     breaks-v6-requires
-    breaks-v7-requires
+    (λ c κs. search needs)
     breaks-v8-requires
-    mask-requires
+    (λ c κs. search needs)
     returns)

@@ -3,12 +3,6 @@ use Rattle.ledger.specs.Closing.{wrongClosing}
 use Rattle.ledger.proofs.closing.wrong_closing.Statement.{statement}
 use Rattle.ledger.proofs.closing.wrong_closing.Tie as tie
 
-last-of-month-requires : tie.Need-last-of-month-requires
-last-of-month-requires c κs = search needs
-
-last-date-requires : tie.Need-last-date-requires
-last-date-requires c κs = search needs
-
 returns : tie.Need-returns
 unfolding wrongClosing
 returns c = rw (
@@ -17,4 +11,4 @@ returns c = rw (
 )
 
 pub wrong-closing-spec : {M : Type 1} → statement M
-wrong-closing-spec = tie.close (tie.spec last-of-month-requires last-date-requires returns)
+wrong-closing-spec = tie.close (tie.spec (λ c κs. search needs) (λ c κs. search needs) returns)

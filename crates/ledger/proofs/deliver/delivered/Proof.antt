@@ -6,19 +6,19 @@ use Rattle.ledger.proofs.deliver.delivered.Statement.{statement}
 use Rattle.ledger.proofs.deliver.delivered.Tie as tie
 
 share-of-requires : tie.Need-share-of-requires
-share-of-requires c κs = let s = c .before .before .before .before .before .before .before .before in let b = bounded (s .args .a) (s .pre .0) in (b .bcq, b .mdq)
+share-of-requires c κs = let s : tie.Start = search in let b = bounded (s .args .a) (s .pre .0) in (b .bcq, b .mdq)
 
 breaks-v1-requires : tie.Need-breaks-v1-requires
-breaks-v1-requires c κs = let s = c .before .before .before .before .before .before .before .before .before in let b = bounded (s .args .a) (s .pre .0) in (b .bcq, s .pre .1)
+breaks-v1-requires c κs = let s : tie.Start = search in let b = bounded (s .args .a) (s .pre .0) in (b .bcq, s .pre .1)
 
 breaks-v2-requires : tie.Need-breaks-v2-requires
-breaks-v2-requires c κs = let s = c .before .before .before .before .before .before .before .before .before .before in let b = bounded (s .args .a) (s .pre .0) in (c .before .share-of .ensures .1, b .mddq, s .pre .1)
+breaks-v2-requires c κs = let s : tie.Start = search in let b = bounded (s .args .a) (s .pre .0) in (c .before .share-of .ensures .1, b .mddq, s .pre .1)
 
 plus-requires : tie.Need-plus-requires
-plus-requires c κs = let s = c .before .before .before .before .before .before .before .before .before .before .before in let b = bounded (s .args .a) (s .pre .0) in omega (arith, b .bank, s .pre .1)
+plus-requires c κs = let s : tie.Start = search in let b = bounded (s .args .a) (s .pre .0) in omega (arith, b .bank, s .pre .1)
 
 plus-requires-2 : tie.Need-plus-requires-2
-plus-requires-2 c κs = let s = c .before .before .before .before .before .before .before .before .before .before .before .before in let b = bounded (s .args .a) (s .pre .0) in omega (arith, b .month .net, s .pre .1)
+plus-requires-2 c κs = let s : tie.Start = search in let b = bounded (s .args .a) (s .pre .0) in omega (arith, b .month .net, s .pre .1)
 
 returns : tie.Need-returns
 unfolding delivered deliveryMarks withBank withMonth withMarks withNet

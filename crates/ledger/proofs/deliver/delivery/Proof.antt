@@ -8,24 +8,12 @@ use Rattle.ledger.proofs.deliver.delivery.Tie as tie
 
 retained-requires : tie.Need-retained-requires
 retained-requires c κs =
-    let s = c .before .before in
+    let s : tie.Start = search in
     let w = deliver-fits (s .args .e) (s .pre .0) (s .pre .1) in
     (terms-bounds (s .args .t) (s .pre .3) .retainage, w .0, w .1)
 
 delivered-requires : tie.Need-delivered-requires
 delivered-requires c κs = (c .before .before .before .pre .2, c .retained .ensures .1)
-
-account-in-range-requires : tie.Need-account-in-range-requires
-account-in-range-requires c κs = search needs
-
-refuse-requires : tie.Need-refuse-requires
-refuse-requires c κs = search needs
-
-refuse-requires-2 : tie.Need-refuse-requires-2
-refuse-requires-2 c κs = search needs
-
-refuse-requires-3 : tie.Need-refuse-requires-3
-refuse-requires-3 c κs = search needs
 
 returns : tie.Need-returns
 unfolding delivery deliverChecks afterDelivery amountUnder verdict
@@ -44,8 +32,8 @@ delivery-spec =
     (tie.spec
     retained-requires
     delivered-requires
-    account-in-range-requires
-    refuse-requires
-    refuse-requires-2
-    refuse-requires-3
+    (λ c κs. search needs)
+    (λ c κs. search needs)
+    (λ c κs. search needs)
+    (λ c κs. search needs)
     returns)

@@ -7,42 +7,9 @@ use Rattle.ledger.proofs.enrol.enrolment.Tie as tie
 
 new-account-requires : tie.Need-new-account-requires
 new-account-requires c κs =
-    let s = c .before in
+    let s : tie.Start = search in
     let w = enrol-fits (s .args .e) (s .pre .0) (s .pre .1) in
     (s .pre .3, w .0, w .1)
-
-first-of-gas-year-requires : tie.Need-first-of-gas-year-requires
-first-of-gas-year-requires c κs = search needs
-
-process-only-requires : tie.Need-process-only-requires
-process-only-requires c κs = search needs
-
-wishes-requires : tie.Need-wishes-requires
-wishes-requires c κs = search needs
-
-stays-on-fbs-requires : tie.Need-stays-on-fbs-requires
-stays-on-fbs-requires c κs = search needs
-
-opening-too-high-requires : tie.Need-opening-too-high-requires
-opening-too-high-requires c κs = search needs
-
-account-in-range-requires : tie.Need-account-in-range-requires
-account-in-range-requires c κs = search needs
-
-refuse-requires : tie.Need-refuse-requires
-refuse-requires c κs = search needs
-
-refuse-requires-2 : tie.Need-refuse-requires-2
-refuse-requires-2 c κs = search needs
-
-refuse-requires-3 : tie.Need-refuse-requires-3
-refuse-requires-3 c κs = search needs
-
-refuse-requires-4 : tie.Need-refuse-requires-4
-refuse-requires-4 c κs = search needs
-
-refuse-requires-5 : tie.Need-refuse-requires-5
-refuse-requires-5 c κs = search needs
 
 returns : tie.Need-returns
 unfolding enrolment enrolChecks enrolled verdict
@@ -66,15 +33,15 @@ enrolment-spec =
     tie.close
     (tie.spec
     new-account-requires
-    first-of-gas-year-requires
-    process-only-requires
-    wishes-requires
-    stays-on-fbs-requires
-    opening-too-high-requires
-    account-in-range-requires
-    refuse-requires
-    refuse-requires-2
-    refuse-requires-3
-    refuse-requires-4
-    refuse-requires-5
+    (λ c κs. search needs)
+    (λ c κs. search needs)
+    (λ c κs. search needs)
+    (λ c κs. search needs)
+    (λ c κs. search needs)
+    (λ c κs. search needs)
+    (λ c κs. search needs)
+    (λ c κs. search needs)
+    (λ c κs. search needs)
+    (λ c κs. search needs)
+    (λ c κs. search needs)
     returns)

@@ -5,9 +5,6 @@ use Rattle.ledger.specs.Entries.{byteAt}
 use Rattle.ledger.proofs.entries.byte.Statement.{statement}
 use Rattle.ledger.proofs.entries.byte.Tie as tie
 
-shared-slice-read-result : tie.Need-shared-slice-read-result
-shared-slice-read-result c = search needs
-
 cast-result : tie.Need-cast-result
 cast-result c = omega (arith, c .shared-slice-known .given (c .before .args .at))
 
@@ -16,4 +13,4 @@ unfolding byteAt
 returns c = (refl, omega (arith, c .shared-slice-known .given (c .before .args .at)))
 
 pub byte-spec : {M : Type 1} → statement M
-byte-spec = tie.close (tie.spec shared-slice-read-result cast-result returns)
+byte-spec = tie.close (tie.spec (λ c. search needs) cast-result returns)

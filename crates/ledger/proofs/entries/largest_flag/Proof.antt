@@ -6,12 +6,6 @@ use Rattle.ledger.specs.Entries.{largestFlag}
 use Rattle.ledger.proofs.entries.largest_flag.Statement.{statement}
 use Rattle.ledger.proofs.entries.largest_flag.Tie as tie
 
-mul-result : tie.Need-mul-result
-mul-result c = search needs
-
-array-read-result : tie.Need-array-read-result
-array-read-result c = search needs
-
 returns : tie.Need-returns
 unfolding largestFlag
 returns c = search needs
@@ -21,4 +15,4 @@ unfolding largestFlag
 returns-2 c = sym (List·getD-eq-default (0 ∷ 0 ∷ 3 ∷ 0 ∷ 0 ∷ 1 ∷ 0 ∷ 0 ∷ 0 ∷ 0 ∷ []) 0 (c .if1 .left))
 
 pub largest-flag-spec : {M : Type 1} → statement M
-largest-flag-spec = tie.close (tie.spec mul-result array-read-result returns returns-2)
+largest-flag-spec = tie.close (tie.spec (λ c. search needs) (λ c. search needs) returns returns-2)

@@ -6,12 +6,6 @@ use Rattle.ledger.specs.Entries.{wordsUsed}
 use Rattle.ledger.proofs.entries.words_used.Statement.{statement}
 use Rattle.ledger.proofs.entries.words_used.Tie as tie
 
-mul-result : tie.Need-mul-result
-mul-result c = search needs
-
-array-read-result : tie.Need-array-read-result
-array-read-result c = search needs
-
 returns : tie.Need-returns
 unfolding wordsUsed
 returns c = search needs
@@ -21,4 +15,4 @@ unfolding wordsUsed
 returns-2 c = sym (List·getD-eq-default (0 ∷ 6 ∷ 2 ∷ 2 ∷ 2 ∷ 1 ∷ 1 ∷ 1 ∷ 0 ∷ 4 ∷ []) 0 (c .if1 .left))
 
 pub words-used-spec : {M : Type 1} → statement M
-words-used-spec = tie.close (tie.spec mul-result array-read-result returns returns-2)
+words-used-spec = tie.close (tie.spec (λ c. search needs) (λ c. search needs) returns returns-2)

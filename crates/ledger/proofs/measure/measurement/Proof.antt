@@ -6,25 +6,10 @@ use Rattle.ledger.proofs.measure.measurement.Statement.{statement}
 use Rattle.ledger.proofs.measure.measurement.Tie as tie
 
 on-measurement-day-requires : tie.Need-on-measurement-day-requires
-on-measurement-day-requires c κs = let s = c .before in is-real (s .args .e) (s .pre .0)
+on-measurement-day-requires c κs = let s : tie.Start = search in is-real (s .args .e) (s .pre .0)
 
 remeasured-requires : tie.Need-remeasured-requires
-remeasured-requires c κs = let s = c .before .before in (s .pre .2, measure-fits (s .args .e) (s .pre .0) (s .pre .1))
-
-account-in-range-requires : tie.Need-account-in-range-requires
-account-in-range-requires c κs = search needs
-
-refuse-requires : tie.Need-refuse-requires
-refuse-requires c κs = search needs
-
-refuse-requires-2 : tie.Need-refuse-requires-2
-refuse-requires-2 c κs = search needs
-
-refuse-requires-3 : tie.Need-refuse-requires-3
-refuse-requires-3 c κs = search needs
-
-refuse-requires-4 : tie.Need-refuse-requires-4
-refuse-requires-4 c κs = search needs
+remeasured-requires c κs = let s : tie.Start = search in (s .pre .2, measure-fits (s .args .e) (s .pre .0) (s .pre .1))
 
 returns : tie.Need-returns
 unfolding measurement measureChecks afterMeasure verdict
@@ -44,9 +29,9 @@ measurement-spec =
     (tie.spec
     on-measurement-day-requires
     remeasured-requires
-    account-in-range-requires
-    refuse-requires
-    refuse-requires-2
-    refuse-requires-3
-    refuse-requires-4
+    (λ c κs. search needs)
+    (λ c κs. search needs)
+    (λ c κs. search needs)
+    (λ c κs. search needs)
+    (λ c κs. search needs)
     returns)

@@ -10,12 +10,9 @@ returns : tie.Need-returns
 unfolding openBank
 returns c = (rw (c .if1 .taken), omega arith)
 
-nothing-requires : tie.Need-nothing-requires
-nothing-requires c κs = search needs
-
 returns-2 : tie.Need-returns-2
 unfolding openBank
 returns-2 c = (rw (c .nothing .ensures, nothing-value, c .before .if1 .left), rw (c .nothing .ensures) (omega (arith, size-nothing)))
 
 pub open-bank-spec : {M : Type 1} → statement M
-open-bank-spec = tie.close (tie.spec returns nothing-requires returns-2)
+open-bank-spec = tie.close (tie.spec returns (λ c κs. search needs) returns-2)

@@ -34,29 +34,11 @@ one-bank c =
     let r = s .before .before in
     omega (arith, c .open-bank .ensures .1, bounded (accountAt (r .args .t1) (s .loop .i)) (account-ranged (r .args .t1) (s .loop .i) (sixteen r) (omega arith) (r .pre)) .bank)
 
-nothing-requires : tie.Need-nothing-requires Inv-loop μ-loop
-nothing-requires c κs = search needs
-
 loop-holds : tie.Need-loop-holds Inv-loop μ-loop
 loop-holds c = (search needs, rw (c .nothing .ensures, nothing-value) (+ℤ-idl (openBanks (c .before .args .t1 .accounts))), rw (c .nothing .ensures) (omega (arith, size-nothing)))
 
-mul-a : tie.Need-mul-a Inv-loop μ-loop
-mul-a c = search needs
-
-element-copy-out-a : tie.Need-element-copy-out-a Inv-loop μ-loop
-element-copy-out-a c = search needs
-
-open-bank-requires : tie.Need-open-bank-requires Inv-loop μ-loop
-open-bank-requires c κs = search needs
-
 plus-requires : tie.Need-plus-requires Inv-loop μ-loop
 plus-requires c κs = omega (arith, one-bank c, c .before .before .before .loop .inv .2)
-
-add-i : tie.Need-add-i Inv-loop μ-loop
-add-i c = search needs
-
-loop-less : tie.Need-loop-less Inv-loop μ-loop
-loop-less c = search needs
 
 loop-again : tie.Need-loop-again Inv-loop μ-loop
 unfolding nobody noTotals noMarks
@@ -81,13 +63,13 @@ open-banks-spec =
     (tie.spec
     Inv-loop
     μ-loop
-    nothing-requires
+    (λ c κs. search needs)
     loop-holds
-    mul-a
-    element-copy-out-a
-    open-bank-requires
+    (λ c. search needs)
+    (λ c. search needs)
+    (λ c κs. search needs)
     plus-requires
-    add-i
-    loop-less
+    (λ c. search needs)
+    (λ c. search needs)
     loop-again
     returns)

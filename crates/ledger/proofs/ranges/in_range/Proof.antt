@@ -19,30 +19,9 @@ abbrev μ-loop : tie.MeasureT-loop
 sixteen : (c : tie.Start Inv-loop μ-loop) → length (c .args .t1 .accounts) ≡ 16
 sixteen c = search (needs, length-mapped)
 
-real-requires : tie.Need-real-requires Inv-loop μ-loop
-real-requires c κs = search needs
-
-in-range-requires : tie.Need-in-range-requires Inv-loop μ-loop
-in-range-requires c κs = search needs
-
 loop-holds : tie.Need-loop-holds Inv-loop μ-loop
 unfolding inRange
 loop-holds c = (search needs, rw (c .in-range .ensures, c .before .real .ensures))
-
-mul-a : tie.Need-mul-a Inv-loop μ-loop
-mul-a c = search needs
-
-element-copy-out-a : tie.Need-element-copy-out-a Inv-loop μ-loop
-element-copy-out-a c = search needs
-
-account-in-range-requires : tie.Need-account-in-range-requires Inv-loop μ-loop
-account-in-range-requires c κs = search needs
-
-add-i : tie.Need-add-i Inv-loop μ-loop
-add-i c = search needs
-
-loop-less : tie.Need-loop-less Inv-loop μ-loop
-loop-less c = search needs
 
 loop-again : tie.Need-loop-again Inv-loop μ-loop
 unfolding nobody noTotals noMarks
@@ -66,13 +45,13 @@ in-range-spec =
     (tie.spec
     Inv-loop
     μ-loop
-    real-requires
-    in-range-requires
+    (λ c κs. search needs)
+    (λ c κs. search needs)
     loop-holds
-    mul-a
-    element-copy-out-a
-    account-in-range-requires
-    add-i
-    loop-less
+    (λ c. search needs)
+    (λ c. search needs)
+    (λ c κs. search needs)
+    (λ c. search needs)
+    (λ c. search needs)
     loop-again
     returns)

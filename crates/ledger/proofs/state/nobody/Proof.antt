@@ -3,12 +3,6 @@ use Rattle.ledger.specs.State.{nobody}
 use Rattle.ledger.proofs.state.nobody.Statement.{statement}
 use Rattle.ledger.proofs.state.nobody.Tie as tie
 
-no-totals-requires : tie.Need-no-totals-requires
-no-totals-requires c κs = search needs
-
-no-marks-requires : tie.Need-no-marks-requires
-no-marks-requires c κs = search needs
-
 returns : tie.Need-returns
 unfolding nobody
 returns c = rw (
@@ -17,4 +11,4 @@ returns c = rw (
 )
 
 pub nobody-spec : {M : Type 1} → statement M
-nobody-spec = tie.close (tie.spec no-totals-requires no-marks-requires returns)
+nobody-spec = tie.close (tie.spec (λ c κs. search needs) (λ c κs. search needs) returns)

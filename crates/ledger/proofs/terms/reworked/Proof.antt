@@ -5,7 +5,7 @@ use Rattle.ledger.proofs.terms.reworked.Statement.{statement}
 use Rattle.ledger.proofs.terms.reworked.Tie as tie
 
 capacity-requires : tie.Need-capacity-requires
-capacity-requires c κs = let s = c .before in (s .pre .0, stepped (s .args .a) (s .pre .1) (c .if1 .taken) .k .1)
+capacity-requires c κs = let s : tie.Start = search in (s .pre .0, stepped (s .args .a) (s .pre .1) (c .if1 .taken) .k .1)
 
 returns : tie.Need-returns
 unfolding reworked withCapacity

@@ -27,17 +27,8 @@ abbrev μ-loop : tie.MeasureT-loop
 sixteen : (c : tie.Start Inv-loop μ-loop) → length (c .args .t1 .accounts) ≡ 16
 sixteen c = search (needs, length-mapped)
 
-terms-requires : tie.Need-terms-requires Inv-loop μ-loop
-terms-requires c κs = search needs
-
 loop-holds : tie.Need-loop-holds Inv-loop μ-loop
 loop-holds c = (search needs, refl)
-
-mul-a : tie.Need-mul-a Inv-loop μ-loop
-mul-a c = search needs
-
-element-copy-out-a : tie.Need-element-copy-out-a Inv-loop μ-loop
-element-copy-out-a c = search needs
 
 reworked-requires : tie.Need-reworked-requires Inv-loop μ-loop
 unfolding nobody noTotals noMarks accountAt
@@ -47,18 +38,6 @@ reworked-requires c κs =
       rw (s .before .before .terms .ensures) (terms-fit (r .args .t1) (r .args .e) (r .pre .0) (r .pre .1)),
       account-ranged (r .args .t1) (s .loop .i) (sixteen r) (omega arith) (is-ranged (r .args .t1) (r .args .e) (r .pre .0)),
     )
-
-mul-b : tie.Need-mul-b Inv-loop μ-loop
-mul-b c = search needs
-
-element-set-from-b : tie.Need-element-set-from-b Inv-loop μ-loop
-element-set-from-b c = search needs
-
-add-i : tie.Need-add-i Inv-loop μ-loop
-add-i c = search needs
-
-loop-less : tie.Need-loop-less Inv-loop μ-loop
-loop-less c = search needs
 
 loop-again : tie.Need-loop-again Inv-loop μ-loop
 unfolding nobody noTotals noMarks
@@ -88,14 +67,14 @@ terms-next-spec =
     (tie.spec
     Inv-loop
     μ-loop
-    terms-requires
+    (λ c κs. search needs)
     loop-holds
-    mul-a
-    element-copy-out-a
+    (λ c. search needs)
+    (λ c. search needs)
     reworked-requires
-    mul-b
-    element-set-from-b
-    add-i
-    loop-less
+    (λ c. search needs)
+    (λ c. search needs)
+    (λ c. search needs)
+    (λ c. search needs)
     loop-again
     returns)

@@ -2,18 +2,12 @@ use borrow.Author.Needs.{needs}
 use Rattle.ledger.proofs.trade.past_limit.Statement.{statement}
 use Rattle.ledger.proofs.trade.past_limit.Tie as tie
 
-above-maximum-requires : tie.Need-above-maximum-requires
-above-maximum-requires c κs = search needs
-
 returns : tie.Need-returns
 returns c = rw (c .before .if1 .taken) (c .above-maximum .ensures)
-
-below-minimum-requires : tie.Need-below-minimum-requires
-below-minimum-requires c κs = search needs
 
 returns-2 : tie.Need-returns-2
 returns-2 c = rw (c .before .if1 .left) (c .below-minimum .ensures)
 
 pub past-limit-spec : {M : Type 1} → statement M
 past-limit-spec =
-    tie.close (tie.spec above-maximum-requires returns below-minimum-requires returns-2)
+    tie.close (tie.spec (λ c κs. search needs) returns (λ c κs. search needs) returns-2)

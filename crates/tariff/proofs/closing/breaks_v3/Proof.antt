@@ -3,15 +3,6 @@ use Rattle.tariff.specs.Closing.{breaksV3}
 use Rattle.tariff.proofs.closing.breaks_v3.Statement.{statement}
 use Rattle.tariff.proofs.closing.breaks_v3.Tie as tie
 
-mmbq-requires : tie.Need-mmbq-requires
-mmbq-requires c κs = search needs
-
-percent-requires : tie.Need-percent-requires
-percent-requires c κs = search needs
-
-above-requires : tie.Need-above-requires
-above-requires c κs = search needs
-
 returns : tie.Need-returns
 unfolding breaksV3
 returns c = rw (
@@ -21,4 +12,4 @@ returns c = rw (
 )
 
 pub breaks-v3-spec : {M : Type 1} → statement M
-breaks-v3-spec = tie.close (tie.spec mmbq-requires percent-requires above-requires returns)
+breaks-v3-spec = tie.close (tie.spec (λ c κs. search needs) (λ c κs. search needs) (λ c κs. search needs) returns)

@@ -3,13 +3,10 @@ use Rattle.tariff.specs.Closing.{breaksV7}
 use Rattle.tariff.proofs.closing.breaks_v7.Statement.{statement}
 use Rattle.tariff.proofs.closing.breaks_v7.Tie as tie
 
-below-requires : tie.Need-below-requires
-below-requires c κs = search needs
-
 returns : tie.Need-returns
 unfolding breaksV7
 returns c = rw
     (c .below .ensures)
 
 pub breaks-v7-spec : {M : Type 1} → statement M
-breaks-v7-spec = tie.close (tie.spec below-requires returns)
+breaks-v7-spec = tie.close (tie.spec (λ c κs. search needs) returns)

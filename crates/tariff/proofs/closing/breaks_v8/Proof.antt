@@ -3,12 +3,6 @@ use Rattle.tariff.specs.Closing.{breaksV8}
 use Rattle.tariff.proofs.closing.breaks_v8.Statement.{statement}
 use Rattle.tariff.proofs.closing.breaks_v8.Tie as tie
 
-percent-requires : tie.Need-percent-requires
-percent-requires c κs = search needs
-
-above-requires : tie.Need-above-requires
-above-requires c κs = search needs
-
 returns : tie.Need-returns
 unfolding breaksV8
 returns c = rw (
@@ -17,4 +11,4 @@ returns c = rw (
 )
 
 pub breaks-v8-spec : {M : Type 1} → statement M
-breaks-v8-spec = tie.close (tie.spec percent-requires above-requires returns)
+breaks-v8-spec = tie.close (tie.spec (λ c κs. search needs) (λ c κs. search needs) returns)

@@ -6,21 +6,6 @@ use Rattle.tariff.specs.Months.{march}
 use Rattle.tariff.proofs.closing.carry.Statement.{statement}
 use Rattle.tariff.proofs.closing.carry.Tie as tie
 
-opposite-requires : tie.Need-opposite-requires
-opposite-requires c κs = search needs
-
-excess-requires : tie.Need-excess-requires
-excess-requires c κs = search needs
-
-winter-requires : tie.Need-winter-requires
-winter-requires c κs = search needs
-
-is-requires : tie.Need-is-requires
-is-requires c κs = search needs
-
-choose-requires : tie.Need-choose-requires
-choose-requires c κs = search needs
-
 returns : tie.Need-returns
 unfolding carryOf march
 returns c = rw (
@@ -36,9 +21,9 @@ pub carry-spec : {M : Type 1} → statement M
 carry-spec =
     tie.close
     (tie.spec
-    opposite-requires
-    excess-requires
-    winter-requires
-    is-requires
-    choose-requires
+    (λ c κs. search needs)
+    (λ c κs. search needs)
+    (λ c κs. search needs)
+    (λ c κs. search needs)
+    (λ c κs. search needs)
     returns)

@@ -6,54 +6,27 @@ use Rattle.tariff.specs.Closing.{breaksV7, breaksV8, cashOf}
 use Rattle.tariff.proofs.closing.cash.Statement.{statement}
 use Rattle.tariff.proofs.closing.cash.Tie as tie
 
-breaks-v7-requires : tie.Need-breaks-v7-requires
-breaks-v7-requires c κs = search needs
-
-minimum-requires : tie.Need-minimum-requires
-minimum-requires c κs = search needs
-
-percent-requires : tie.Need-percent-requires
-percent-requires c κs = search needs
-
-gap-requires : tie.Need-gap-requires
-gap-requires c κs = search needs
-
 returns : tie.Need-returns
 unfolding cashOf
 returns c =
-    let s = c .before .before .before .before .before in
+    let s : tie.Start = search in
     let low : breaksV7 (s .args .bank) ≡ true = sym (c .before .before .before .before .breaks-v7 .ensures) ∙ c .before .before .before .if1 .taken in
     rw (c .gap .ensures .0, c .before .percent .ensures .0, c .before .before .minimum .ensures .0)
     (rw low, rw low at (cash-le (s .args .m) (s .args .excused) (s .args .bcq) (s .args .bank) (s .pre .0)))
 
-breaks-v8-requires : tie.Need-breaks-v8-requires
-breaks-v8-requires c κs = search needs
-
-maximum-requires : tie.Need-maximum-requires
-maximum-requires c κs = search needs
-
-percent-requires-2 : tie.Need-percent-requires-2
-percent-requires-2 c κs = search needs
-
-gap-requires-2 : tie.Need-gap-requires-2
-gap-requires-2 c κs = search needs
-
 returns-2 : tie.Need-returns-2
 unfolding cashOf
 returns-2 c =
-    let s = c .before .before .before .before .before .before .before in
+    let s : tie.Start = search in
     let low : breaksV7 (s .args .bank) ≡ false = sym (c .before .before .before .before .before .before .breaks-v7 .ensures) ∙ c .before .before .before .before .before .if1 .left in
     let high : breaksV8 (s .args .excused) (s .args .bcq) (s .args .bank) ≡ true = sym (c .before .before .before .before .breaks-v8 .ensures) ∙ c .before .before .before .if2 .taken in
     rw (c .gap2 .ensures .0, c .before .percent2 .ensures .0, c .before .before .maximum .ensures .0)
     (rw (low, high), rw (low, high) at (cash-le (s .args .m) (s .args .excused) (s .args .bcq) (s .args .bank) (s .pre .0)))
 
-nothing-requires : tie.Need-nothing-requires
-nothing-requires c κs = search needs
-
 returns-3 : tie.Need-returns-3
 unfolding cashOf
 returns-3 c =
-    let s = c .before .before .before .before .before in
+    let s : tie.Start = search in
     let low : breaksV7 (s .args .bank) ≡ false = sym (c .before .before .before .before .breaks-v7 .ensures) ∙ c .before .before .before .if1 .left in
     let high : breaksV8 (s .args .excused) (s .args .bcq) (s .args .bank) ≡ false = sym (c .before .before .breaks-v8 .ensures) ∙ c .before .if2 .left in
     rw (c .nothing .ensures) (rw (low, high), rw (low, high) at (cash-le (s .args .m) (s .args .excused) (s .args .bcq) (s .args .bank) (s .pre .0)))
@@ -62,15 +35,15 @@ pub cash-spec : {M : Type 1} → statement M
 cash-spec =
     tie.close
     (tie.spec
-    breaks-v7-requires
-    minimum-requires
-    percent-requires
-    gap-requires
+    (λ c κs. search needs)
+    (λ c κs. search needs)
+    (λ c κs. search needs)
+    (λ c κs. search needs)
     returns
-    breaks-v8-requires
-    maximum-requires
-    percent-requires-2
-    gap-requires-2
+    (λ c κs. search needs)
+    (λ c κs. search needs)
+    (λ c κs. search needs)
+    (λ c κs. search needs)
     returns-2
-    nothing-requires
+    (λ c κs. search needs)
     returns-3)

@@ -3,15 +3,6 @@ use Rattle.tariff.specs.Closing.{endsExcuse}
 use Rattle.tariff.proofs.closing.ends_excuse.Statement.{statement}
 use Rattle.tariff.proofs.closing.ends_excuse.Tie as tie
 
-maximum-requires : tie.Need-maximum-requires
-maximum-requires c κs = search needs
-
-percent-requires : tie.Need-percent-requires
-percent-requires c κs = search needs
-
-above-requires : tie.Need-above-requires
-above-requires c κs = search needs
-
 returns : tie.Need-returns
 unfolding endsExcuse
 returns c = rw (
@@ -21,4 +12,4 @@ returns c = rw (
 )
 
 pub ends-excuse-spec : {M : Type 1} → statement M
-ends-excuse-spec = tie.close (tie.spec maximum-requires percent-requires above-requires returns)
+ends-excuse-spec = tie.close (tie.spec (λ c κs. search needs) (λ c κs. search needs) (λ c κs. search needs) returns)

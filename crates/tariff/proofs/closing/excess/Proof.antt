@@ -5,15 +5,9 @@ use Rattle.tariff.specs.Closing.{excessOver}
 use Rattle.tariff.proofs.closing.excess.Statement.{statement}
 use Rattle.tariff.proofs.closing.excess.Tie as tie
 
-less-requires : tie.Need-less-requires
-less-requires c κs = search needs
-
-inward-requires : tie.Need-inward-requires
-inward-requires c κs = search needs
-
 returns : tie.Need-returns
 unfolding excessOver
 returns c = rw (c .inward .ensures .0, c .before .less .ensures .0) (refl, excess-le (c .before .before .args .a) (c .before .before .args .q))
 
 pub excess-spec : {M : Type 1} → statement M
-excess-spec = tie.close (tie.spec less-requires inward-requires returns)
+excess-spec = tie.close (tie.spec (λ c κs. search needs) (λ c κs. search needs) returns)

@@ -6,30 +6,6 @@ use Rattle.tariff.specs.Months.{january, march}
 use Rattle.tariff.proofs.closing.forfeit.Statement.{statement}
 use Rattle.tariff.proofs.closing.forfeit.Tie as tie
 
-percent-requires : tie.Need-percent-requires
-percent-requires c κs = search needs
-
-excess-requires : tie.Need-excess-requires
-excess-requires c κs = search needs
-
-percent-requires-2 : tie.Need-percent-requires-2
-percent-requires-2 c κs = search needs
-
-excess-requires-2 : tie.Need-excess-requires-2
-excess-requires-2 c κs = search needs
-
-is-requires : tie.Need-is-requires
-is-requires c κs = search needs
-
-is-requires-2 : tie.Need-is-requires-2
-is-requires-2 c κs = search needs
-
-choose-requires : tie.Need-choose-requires
-choose-requires c κs = search needs
-
-choose-requires-2 : tie.Need-choose-requires-2
-choose-requires-2 c κs = search needs
-
 returns : tie.Need-returns
 unfolding forfeitOf january march
 returns c = rw (
@@ -48,12 +24,12 @@ pub forfeit-spec : {M : Type 1} → statement M
 forfeit-spec =
     tie.close
     (tie.spec
-    percent-requires
-    excess-requires
-    percent-requires-2
-    excess-requires-2
-    is-requires
-    is-requires-2
-    choose-requires
-    choose-requires-2
+    (λ c κs. search needs)
+    (λ c κs. search needs)
+    (λ c κs. search needs)
+    (λ c κs. search needs)
+    (λ c κs. search needs)
+    (λ c κs. search needs)
+    (λ c κs. search needs)
+    (λ c κs. search needs)
     returns)

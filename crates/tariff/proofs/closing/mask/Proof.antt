@@ -6,47 +6,23 @@ use Rattle.tariff.specs.Closing.{maskOf}
 use Rattle.tariff.proofs.closing.mask.Statement.{statement}
 use Rattle.tariff.proofs.closing.mask.Tie as tie
 
-bit-requires : tie.Need-bit-requires
-bit-requires c κs = search needs
-
-bit-requires-2 : tie.Need-bit-requires-2
-bit-requires-2 c κs = search needs
-
 add-result : tie.Need-add-result
 add-result c = omega arith
-
-bit-requires-3 : tie.Need-bit-requires-3
-bit-requires-3 c κs = search needs
 
 add-result-2 : tie.Need-add-result-2
 add-result-2 c = omega arith
 
-bit-requires-4 : tie.Need-bit-requires-4
-bit-requires-4 c κs = search needs
-
 add-result-3 : tie.Need-add-result-3
 add-result-3 c = omega arith
-
-bit-requires-5 : tie.Need-bit-requires-5
-bit-requires-5 c κs = search needs
 
 add-result-4 : tie.Need-add-result-4
 add-result-4 c = omega arith
 
-bit-requires-6 : tie.Need-bit-requires-6
-bit-requires-6 c κs = search needs
-
 add-result-5 : tie.Need-add-result-5
 add-result-5 c = omega arith
 
-bit-requires-7 : tie.Need-bit-requires-7
-bit-requires-7 c κs = search needs
-
 add-result-6 : tie.Need-add-result-6
 add-result-6 c = omega arith
-
-bit-requires-8 : tie.Need-bit-requires-8
-bit-requires-8 c κs = search needs
 
 add-result-7 : tie.Need-add-result-7
 add-result-7 c = omega arith
@@ -69,19 +45,19 @@ pub mask-spec : {M : Type 1} → statement M
 mask-spec =
     tie.close
     (tie.spec
-    bit-requires
-    bit-requires-2
+    (λ c κs. search needs)
+    (λ c κs. search needs)
     add-result
-    bit-requires-3
+    (λ c κs. search needs)
     add-result-2
-    bit-requires-4
+    (λ c κs. search needs)
     add-result-3
-    bit-requires-5
+    (λ c κs. search needs)
     add-result-4
-    bit-requires-6
+    (λ c κs. search needs)
     add-result-5
-    bit-requires-7
+    (λ c κs. search needs)
     add-result-6
-    bit-requires-8
+    (λ c κs. search needs)
     add-result-7
     returns)

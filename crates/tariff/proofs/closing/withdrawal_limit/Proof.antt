@@ -9,22 +9,13 @@ use Rattle.tariff.specs.Months.{withdrawalMaximum}
 use Rattle.tariff.proofs.closing.withdrawal_limit.Statement.{statement}
 use Rattle.tariff.proofs.closing.withdrawal_limit.Tie as tie
 
-withdrawal-maximum-requires : tie.Need-withdrawal-maximum-requires
-withdrawal-maximum-requires c κs = search needs
-
-percent-requires : tie.Need-percent-requires
-percent-requires c κs = search needs
-
-larger-requires : tie.Need-larger-requires
-larger-requires c κs = search needs
-
 sub-t6 : tie.Need-sub-t6
 sub-t6 c = omega arith
 
 returns : tie.Need-returns
 unfolding withdrawalLimit
 returns c =
-    let s = c .before .before .before .before in
+    let s : tie.Start = search in
     let most = percent (withdrawalMaximum (s .args .m)) (s .args .bcq) .0 in
     let left : max most (s .args .carry .0) - s .args .carry .0 ≡ most - s .args .carry .0 = omega arith in
     rw (
@@ -38,4 +29,4 @@ returns c =
 pub withdrawal-limit-spec : {M : Type 1} → statement M
 withdrawal-limit-spec =
     tie.close
-    (tie.spec withdrawal-maximum-requires percent-requires larger-requires sub-t6 returns)
+    (tie.spec (λ c κs. search needs) (λ c κs. search needs) (λ c κs. search needs) sub-t6 returns)

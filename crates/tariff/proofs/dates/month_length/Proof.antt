@@ -5,9 +5,6 @@ use Rattle.tariff.specs.Dates.{monthLength}
 use Rattle.tariff.proofs.dates.month_length.Statement.{statement}
 use Rattle.tariff.proofs.dates.month_length.Tie as tie
 
-leap-requires : tie.Need-leap-requires
-leap-requires c κs = search needs
-
 returns : tie.Need-returns
 unfolding monthLength
 returns c = rw (c .before .before .if1 .taken, lengths-are (c .before .before .before .args .year), sym (c .before .leap .ensures) ∙ c .if2 .taken)
@@ -16,16 +13,10 @@ returns-2 : tie.Need-returns-2
 unfolding monthLength
 returns-2 c = rw (c .before .before .if1 .taken, lengths-are (c .before .before .before .args .year), sym (c .before .leap .ensures) ∙ c .if2 .left)
 
-add-result : tie.Need-add-result
-add-result c = search needs
-
-add-result-2 : tie.Need-add-result-2
-add-result-2 c = search needs
-
 returns-3 : tie.Need-returns-3
 unfolding monthLength
 returns-3 c = length-by-turns (c .before .args .year) (c .before .args .month .0) (c .before .pre .0) (c .before .pre .1) (c .if1 .left)
 
 pub month-length-spec : {M : Type 1} → statement M
 month-length-spec =
-    tie.close (tie.spec leap-requires returns returns-2 add-result add-result-2 returns-3)
+    tie.close (tie.spec (λ c κs. search needs) returns returns-2 (λ c. search needs) (λ c. search needs) returns-3)

@@ -6,18 +6,6 @@ use Rattle.tariff.specs.Delivery.{breaksV1}
 use Rattle.tariff.proofs.delivery.breaks_v1.Statement.{statement}
 use Rattle.tariff.proofs.delivery.breaks_v1.Tie as tie
 
-mmbq-requires : tie.Need-mmbq-requires
-mmbq-requires c κs = search needs
-
-percent-requires : tie.Need-percent-requires
-percent-requires c κs = search needs
-
-inward-requires : tie.Need-inward-requires
-inward-requires c κs = search needs
-
-days-of-injection-requires : tie.Need-days-of-injection-requires
-days-of-injection-requires c κs = search needs
-
 mul-result : tie.Need-mul-result
 mul-result c =
     let injected : c .before .before .inward .result .0 ≤ 1000000000 = omega (arith, c .before .before .inward .ensures .1, c .before .before .before .before .before .pre .1) in
@@ -36,9 +24,9 @@ pub breaks-v1-spec : {M : Type 1} → statement M
 breaks-v1-spec =
     tie.close
     (tie.spec
-    mmbq-requires
-    percent-requires
-    inward-requires
-    days-of-injection-requires
+    (λ c κs. search needs)
+    (λ c κs. search needs)
+    (λ c κs. search needs)
+    (λ c κs. search needs)
     mul-result
     returns)

@@ -3,12 +3,6 @@ use Rattle.tariff.specs.Delivery.{breaksV2}
 use Rattle.tariff.proofs.delivery.breaks_v2.Statement.{statement}
 use Rattle.tariff.proofs.delivery.breaks_v2.Tie as tie
 
-percent-requires : tie.Need-percent-requires
-percent-requires c κs = search needs
-
-outward-requires : tie.Need-outward-requires
-outward-requires c κs = search needs
-
 returns : tie.Need-returns
 unfolding breaksV2
 returns c = rw (
@@ -17,4 +11,4 @@ returns c = rw (
 )
 
 pub breaks-v2-spec : {M : Type 1} → statement M
-breaks-v2-spec = tie.close (tie.spec percent-requires outward-requires returns)
+breaks-v2-spec = tie.close (tie.spec (λ c κs. search needs) (λ c κs. search needs) returns)

@@ -6,15 +6,6 @@ use Rattle.tariff.specs.Months.{december, november}
 use Rattle.tariff.proofs.delivery.days_of_injection.Statement.{statement}
 use Rattle.tariff.proofs.delivery.days_of_injection.Tie as tie
 
-is-requires : tie.Need-is-requires
-is-requires c κs = search needs
-
-is-requires-2 : tie.Need-is-requires-2
-is-requires-2 c κs = search needs
-
-choose-requires : tie.Need-choose-requires
-choose-requires c κs = search needs
-
 returns : tie.Need-returns
 unfolding daysOfInjection november december
 returns c = rw (
@@ -25,4 +16,4 @@ returns c = rw (
     (refl, days-le (c .before .before .before .args .m))
 
 pub days-of-injection-spec : {M : Type 1} → statement M
-days-of-injection-spec = tie.close (tie.spec is-requires is-requires-2 choose-requires returns)
+days-of-injection-spec = tie.close (tie.spec (λ c κs. search needs) (λ c κs. search needs) (λ c κs. search needs) returns)

@@ -5,36 +5,6 @@ use Rattle.tariff.specs.Delivery.{shareOf}
 use Rattle.tariff.proofs.delivery.share_of.Statement.{statement}
 use Rattle.tariff.proofs.delivery.share_of.Tie as tie
 
-percent-requires : tie.Need-percent-requires
-percent-requires c κs = search needs
-
-below-requires : tie.Need-below-requires
-below-requires c κs = search needs
-
-percent-requires-2 : tie.Need-percent-requires-2
-percent-requires-2 c κs = search needs
-
-below-requires-2 : tie.Need-below-requires-2
-below-requires-2 c κs = search needs
-
-percent-requires-3 : tie.Need-percent-requires-3
-percent-requires-3 c κs = search needs
-
-below-requires-3 : tie.Need-below-requires-3
-below-requires-3 c κs = search needs
-
-mul-cold : tie.Need-mul-cold
-mul-cold c = search needs
-
-choose-requires : tie.Need-choose-requires
-choose-requires c κs = search needs
-
-choose-requires-2 : tie.Need-choose-requires-2
-choose-requires-2 c κs = search needs
-
-choose-requires-3 : tie.Need-choose-requires-3
-choose-requires-3 c κs = search needs
-
 returns : tie.Need-returns
 unfolding shareOf
 returns c = rw (
@@ -54,14 +24,14 @@ pub share-of-spec : {M : Type 1} → statement M
 share-of-spec =
     tie.close
     (tie.spec
-    percent-requires
-    below-requires
-    percent-requires-2
-    below-requires-2
-    percent-requires-3
-    below-requires-3
-    mul-cold
-    choose-requires
-    choose-requires-2
-    choose-requires-3
+    (λ c κs. search needs)
+    (λ c κs. search needs)
+    (λ c κs. search needs)
+    (λ c κs. search needs)
+    (λ c κs. search needs)
+    (λ c κs. search needs)
+    (λ c. search needs)
+    (λ c κs. search needs)
+    (λ c κs. search needs)
+    (λ c κs. search needs)
     returns)

@@ -3,13 +3,10 @@ use Rattle.tariff.specs.Enrol.{openingTooHigh}
 use Rattle.tariff.proofs.enrol.opening_too_high.Statement.{statement}
 use Rattle.tariff.proofs.enrol.opening_too_high.Tie as tie
 
-percent-requires : tie.Need-percent-requires
-percent-requires c κs = search needs
-
 returns : tie.Need-returns
 unfolding openingTooHigh
 returns c = rw
     (c .before .before .percent .ensures .0)
 
 pub opening-too-high-spec : {M : Type 1} → statement M
-opening-too-high-spec = tie.close (tie.spec percent-requires returns)
+opening-too-high-spec = tie.close (tie.spec (λ c κs. search needs) returns)

@@ -3,15 +3,6 @@ use Rattle.tariff.specs.Limits.{belowMinimum}
 use Rattle.tariff.proofs.limits.below_minimum.Statement.{statement}
 use Rattle.tariff.proofs.limits.below_minimum.Tie as tie
 
-minimum-requires : tie.Need-minimum-requires
-minimum-requires c κs = search needs
-
-percent-requires : tie.Need-percent-requires
-percent-requires c κs = search needs
-
-below-requires : tie.Need-below-requires
-below-requires c κs = search needs
-
 returns : tie.Need-returns
 unfolding belowMinimum
 returns c = rw (
@@ -21,4 +12,4 @@ returns c = rw (
 )
 
 pub below-minimum-spec : {M : Type 1} → statement M
-below-minimum-spec = tie.close (tie.spec minimum-requires percent-requires below-requires returns)
+below-minimum-spec = tie.close (tie.spec (λ c κs. search needs) (λ c κs. search needs) (λ c κs. search needs) returns)

@@ -8,27 +8,6 @@ use Rattle.tariff.specs.Terms.{termsInRange}
 use Rattle.ledger.proofs.entries.Entry.words_in_range.Statement.{statement}
 use Rattle.ledger.proofs.entries.Entry.words_in_range.Tie as tie
 
-terms-requires : tie.Need-terms-requires
-terms-requires c κs = search needs
-
-in-range-requires : tie.Need-in-range-requires
-in-range-requires c κs = search needs
-
-some-units-requires : tie.Need-some-units-requires
-some-units-requires c κs = search needs
-
-some-units-requires-2 : tie.Need-some-units-requires-2
-some-units-requires-2 c κs = search needs
-
-some-units-requires-3 : tie.Need-some-units-requires-3
-some-units-requires-3 c κs = search needs
-
-prices-requires : tie.Need-prices-requires
-prices-requires c κs = search needs
-
-in-range-requires-2 : tie.Need-in-range-requires-2
-in-range-requires-2 c κs = search needs
-
 returns : tie.Need-returns
 returns c = c .in-range .ensures ∙ ap termsInRange (c .before .terms .ensures) ∙ sym (words-at (c .before .before .before .args .self) 1 (c .before .before .match .keys1))
 
@@ -70,13 +49,13 @@ pub words-in-range-spec : {M : Type 1} → statement M
 words-in-range-spec =
     tie.close
     (tie.spec
-    terms-requires
-    in-range-requires
-    some-units-requires
-    some-units-requires-2
-    some-units-requires-3
-    prices-requires
-    in-range-requires-2
+    (λ c κs. search needs)
+    (λ c κs. search needs)
+    (λ c κs. search needs)
+    (λ c κs. search needs)
+    (λ c κs. search needs)
+    (λ c κs. search needs)
+    (λ c κs. search needs)
     returns
     returns-2
     returns-3

@@ -4,13 +4,10 @@ use Rattle.tariff.specs.Months.{december}
 use Rattle.tariff.proofs.dates.Date.last_date.Statement.{statement}
 use Rattle.tariff.proofs.dates.Date.last_date.Tie as tie
 
-is-on-requires : tie.Need-is-on-requires
-is-on-requires c κs = search needs
-
 returns : tie.Need-returns
 unfolding lastDate december
 returns c = rw
     (c .before .is-on .ensures)
 
 pub last-date-spec : {M : Type 1} → statement M
-last-date-spec = tie.close (tie.spec is-on-requires returns)
+last-date-spec = tie.close (tie.spec (λ c κs. search needs) returns)

@@ -9,11 +9,11 @@ use Rattle.tariff.proofs.dates.Date.real.Tie as tie
 
 returns : tie.Need-returns
 unfolding real
-returns c = let s = c .before .before in rw (not-true (leb 1 (s .args .self .month .0) && leb (s .args .self .month .0) 12) (c .if1 .taken))
+returns c = let s : tie.Start = search in rw (not-true (leb 1 (s .args .self .month .0) && leb (s .args .self .month .0) 12) (c .if1 .taken))
 
 month-length-requires : tie.Need-month-length-requires
 month-length-requires c κs =
-    let s = c .before .before in
+    let s : tie.Start = search in
     let within = not-false (leb 1 (s .args .self .month .0) && leb (s .args .self .month .0) 12) (c .if1 .left) in (
       leb-true 1 (s .args .self .month .0) (and-left (leb 1 (s .args .self .month .0)) (leb (s .args .self .month .0) 12) within),
       leb-true (s .args .self .month .0) 12 (and-right (leb 1 (s .args .self .month .0)) (leb (s .args .self .month .0) 12) within),
@@ -21,7 +21,7 @@ month-length-requires c κs =
 
 returns-2 : tie.Need-returns-2
 unfolding real
-returns-2 c = let s = c .before .before .before .before .before .before .before in rw (c .before .before .before .before .month-length .ensures, not-false (leb 1 (s .args .self .month .0) && leb (s .args .self .month .0) 12) (c .before .before .before .before .before .if1 .left))
+returns-2 c = let s : tie.Start = search in rw (c .before .before .before .before .month-length .ensures, not-false (leb 1 (s .args .self .month .0) && leb (s .args .self .month .0) 12) (c .before .before .before .before .before .if1 .left))
 
 pub real-spec : {M : Type 1} → statement M
 real-spec = tie.close (tie.spec returns month-length-requires returns-2)

@@ -3,13 +3,10 @@ use Rattle.tariff.specs.Dates.{sameDate}
 use Rattle.tariff.proofs.dates.Date.same.Statement.{statement}
 use Rattle.tariff.proofs.dates.Date.same.Tie as tie
 
-is-requires : tie.Need-is-requires
-is-requires c κs = search needs
-
 returns : tie.Need-returns
 unfolding sameDate
 returns c = rw
     (c .before .before .is .ensures)
 
 pub same-spec : {M : Type 1} → statement M
-same-spec = tie.close (tie.spec is-requires returns)
+same-spec = tie.close (tie.spec (λ c κs. search needs) returns)

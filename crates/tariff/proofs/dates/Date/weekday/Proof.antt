@@ -3,15 +3,9 @@ use Rattle.tariff.specs.Dates.{weekday}
 use Rattle.tariff.proofs.dates.Date.weekday.Statement.{statement}
 use Rattle.tariff.proofs.dates.Date.weekday.Tie as tie
 
-day-number-requires : tie.Need-day-number-requires
-day-number-requires c κs = search needs
-
-add-result : tie.Need-add-result
-add-result c = search needs
-
 returns : tie.Need-returns
 unfolding weekday
 returns c = rw (c .day-number .ensures .0)
 
 pub weekday-spec : {M : Type 1} → statement M
-weekday-spec = tie.close (tie.spec day-number-requires add-result returns)
+weekday-spec = tie.close (tie.spec (λ c κs. search needs) (λ c. search needs) returns)

@@ -5,19 +5,10 @@ use Rattle.tariff.specs.Months.{withdrawalMaximum}
 use Rattle.tariff.proofs.months.Month.withdrawal_maximum.Statement.{statement}
 use Rattle.tariff.proofs.months.Month.withdrawal_maximum.Tie as tie
 
-gas-month-requires : tie.Need-gas-month-requires
-gas-month-requires c κs = search needs
-
-mul-result : tie.Need-mul-result
-mul-result c = search needs
-
-array-read-result : tie.Need-array-read-result
-array-read-result c = search needs
-
 returns : tie.Need-returns
 unfolding withdrawalMaximum
 returns c = rw (c .gas-month .ensures .0) (refl, withdrawal-maximum-le (c .before .args .self))
 
 pub withdrawal-maximum-spec : {M : Type 1} → statement M
 withdrawal-maximum-spec =
-    tie.close (tie.spec gas-month-requires mul-result array-read-result returns)
+    tie.close (tie.spec (λ c κs. search needs) (λ c. search needs) (λ c. search needs) returns)

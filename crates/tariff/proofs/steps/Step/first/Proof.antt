@@ -4,12 +4,9 @@ use Rattle.tariff.specs.Steps.{firstStep}
 use Rattle.tariff.proofs.steps.Step.first.Statement.{statement}
 use Rattle.tariff.proofs.steps.Step.first.Tie as tie
 
-step-of-requires : tie.Need-step-of-requires
-step-of-requires c κs = search needs
-
 returns : tie.Need-returns
 unfolding firstStep
 returns c = (rw (c .step-of .ensures .0), omega arith)
 
 pub first-spec : {M : Type 1} → statement M
-first-spec = tie.close (tie.spec step-of-requires returns)
+first-spec = tie.close (tie.spec (λ c κs. search needs) returns)

@@ -4,12 +4,9 @@ use Rattle.tariff.specs.Steps.{isOver}
 use Rattle.tariff.proofs.steps.Step.is_over.Statement.{statement}
 use Rattle.tariff.proofs.steps.Step.is_over.Tie as tie
 
-add-result : tie.Need-add-result
-add-result c = search needs
-
 returns : tie.Need-returns
 unfolding isOver
 returns c = over-test (c .before .before .args .self .k) (c .before .before .args .m .0)
 
 pub is-over-spec : {M : Type 1} → statement M
-is-over-spec = tie.close (tie.spec add-result returns)
+is-over-spec = tie.close (tie.spec (λ c. search needs) returns)

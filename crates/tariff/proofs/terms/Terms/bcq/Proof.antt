@@ -9,7 +9,7 @@ use Rattle.tariff.proofs.terms.Terms.bcq.Tie as tie
 
 mul-t3 : tie.Need-mul-t3
 mul-t3 c =
-    let s = c .before .before in
+    let s : tie.Start = search in
     let b = terms-bounds (s .args .self) (s .pre .0) in
     let stored : s .args .self .storage .0 ≤ 1000000000 = omega arith in
     omega (arith, mul-le-mul (s .pre .1) stored)

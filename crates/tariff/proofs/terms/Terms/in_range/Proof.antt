@@ -16,7 +16,7 @@ mul-stored c = omega (arith, leb-true (c .before .args .self .«no_notice» .0) 
 
 returns-2 : tie.Need-returns-2
 unfolding termsInRange
-returns-2 c = let s = c .before .before .before .before in rw (not-false (leb 1 (s .args .self .«no_notice» .0) && leb (s .args .self .«no_notice» .0) 10000000) (c .before .before .before .if1 .left))
+returns-2 c = let s : tie.Start = search in rw (not-false (leb 1 (s .args .self .«no_notice» .0) && leb (s .args .self .«no_notice» .0) 10000000) (c .before .before .before .if1 .left))
 
 pub in-range-spec : {M : Type 1} → statement M
 in-range-spec = tie.close (tie.spec returns mul-stored returns-2)

@@ -8,9 +8,6 @@ use Rattle.tariff.specs.Terms.{mddqOf}
 use Rattle.tariff.proofs.terms.Terms.mddq.Statement.{statement}
 use Rattle.tariff.proofs.terms.Terms.mddq.Tie as tie
 
-mul-t3 : tie.Need-mul-t3
-mul-t3 c = search needs
-
 mul-t4 : tie.Need-mul-t4
 mul-t4 c =
     let b = terms-bounds (c .before .args .self) (c .before .pre .0) in
@@ -25,4 +22,4 @@ unfolding mddqOf
 returns c = (refl, mddq-le (c .before .before .args .self) (c .before .before .args .k) (c .before .before .pre .0) (c .before .before .pre .1))
 
 pub mddq-spec : {M : Type 1} → statement M
-mddq-spec = tie.close (tie.spec mul-t3 mul-t4 div-t5 returns)
+mddq-spec = tie.close (tie.spec (λ c. search needs) mul-t4 div-t5 returns)
