@@ -2,16 +2,15 @@
 use Prim.Native.Nat.{ℕ, _+_, _*_, _-_, _<_, _≤_}
 use mathlib.Core.Path.{_≡_, refl, sym, ap, _∙_}
 use mathlib.Core.Bool.{Bool, true, false, cond}
-use mathlib.Core.List.{List}
+use mathlib.Core.List.{List, [], _∷_}
 use lib.Dec.{eqb}
 use lib.ListN.{take, drop}
 use Rattle.ledger.specs.Posting.{posted}
-use Rattle.ledger.specs.History.{Line, history, run, countOf}
+use Rattle.ledger.specs.Running.{Line, history, run}
 use Rattle.ledger.specs.declared.state.Ledger.{Ledger}
 use Rattle.ledger.specs.declared.answers.Posted.{Posted}
-use Rattle.ledger.proofs.Replaying.{accepted-by-number, run-none, run-next, count-none, count-next}
 use Rattle.archive.specs.Entries.{firstEntries}
-use Rattle.archive.specs.Replay.{asAccepted, asRefused}
+use Rattle.archive.specs.Replay.{countOf, asAccepted, asRefused}
 use Rattle.archive.proofs.EntryLists.{entries-next, entries-none}
 
 -- 1 for number 0, else 0
@@ -20,7 +19,7 @@ accepting number = cond (eqb number 0) 1 0
 
 pub as-accepted : (b : List ℕ) (p : Posted) → asAccepted (record { bytes = b; answer = p .answer }) ≡ accepting (p .answer .number)
 unfolding asAccepted
-as-accepted b p = rw (accepted-by-number (record { bytes = b; answer = p .answer }))
+as-accepted b p = refl
 
 one-less : (t : Bool) → cond t 0 1 ≡ 1 - cond t 1 0
 one-less true = refl
@@ -28,7 +27,16 @@ one-less false = refl
 
 pub as-refused : (b : List ℕ) (p : Posted) → asRefused (record { bytes = b; answer = p .answer }) ≡ 1 - accepting (p .answer .number)
 unfolding asRefused
-as-refused b p = rw (accepted-by-number (record { bytes = b; answer = p .answer })) (one-less (eqb (p .answer .number) 0))
+as-refused b p = one-less (eqb (p .answer .number) 0)
+
+module _ (f : Line → ℕ) (l : Ledger) where
+  pub count-none : countOf f (history l []) ≡ 0
+  unfolding countOf
+  count-none = refl
+
+  count-next : (b : List ℕ) (bs : List (List ℕ)) → countOf f (history l (b ∷ bs)) ≡ f (record { bytes = b; answer = posted l b .answer }) + countOf f (history (posted l b .ledger) bs)
+  unfolding countOf
+  count-next b bs = refl
 
 module _ (n k : ℕ) (s : List ℕ) (l : Ledger) where
   abbrev pub left : List (List ℕ)
@@ -42,7 +50,7 @@ module _ (n k : ℕ) (s : List ℕ) (l : Ledger) where
 
   pub run-turn : k < n → (p : Posted) → p ≡ posted l bytes → run (p .ledger) after ≡ run l left
   run-turn h p e =
-      ap (λ (q : Posted). run (q .ledger) after) e ∙ sym (ap (run l) (entries-next n k s h) ∙ run-next l bytes after)
+      ap (λ (q : Posted). run (q .ledger) after) e ∙ sym (ap (run l) (entries-next n k s h))
 
   pub count-turn : (f : Line → ℕ) (g : Posted → ℕ) → ((p : Posted) → f (record { bytes = bytes; answer = p .answer }) ≡ g p) → k < n → (p : Posted) → p ≡ posted l bytes
       → g p + countOf f (history (p .ledger) after) ≡ countOf f (history l left)
@@ -52,7 +60,7 @@ module _ (n k : ℕ) (s : List ℕ) (l : Ledger) where
       ∙ sym (ap (λ (es : List (List ℕ)). countOf f (history l es)) (entries-next n k s h) ∙ count-next f l bytes after)
 
   pub run-over : n ≤ k → run l left ≡ l
-  run-over h = ap (run l) (entries-none n k (drop (32 * k) s) h) ∙ run-none l
+  run-over h = ap (run l) (entries-none n k (drop (32 * k) s) h)
 
   pub count-over : (f : Line → ℕ) → n ≤ k → countOf f (history l left) ≡ 0
   count-over f h = ap (λ (es : List (List ℕ)). countOf f (history l es)) (entries-none n k (drop (32 * k) s) h) ∙ count-none f l

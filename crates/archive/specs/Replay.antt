@@ -1,12 +1,13 @@
 -- An archive's entries, posted in order to a fresh ledger. "State refusals are archived too."
-use Prim.Native.Nat.{ℕ, _<_}
+use Prim.Native.Nat.{ℕ, _+_, _<_}
 use mathlib.Core.Path.{_≡_}
 use mathlib.Core.Bool.{Bool, cond}
-use mathlib.Core.List.{List, []}
+use mathlib.Core.List.{List, [], _∷_}
 use lib.Dec.{eqb}
 use Rattle.ledger.specs.State.{fresh}
-use Rattle.ledger.specs.Panel.{panelOf}
-use Rattle.ledger.specs.History.{Line, history, run, isAccepted, accepted, countOf, sumOf, billed, violated, bankSum, figureSum, bankOf, owedOf, daysOf, remaining, bytesOf}
+use Rattle.ledger.specs.Panel.{bankOf, panelOf}
+use Rattle.ledger.specs.Running.{Line, history, run, isAccepted}
+use Rattle.history.specs.History.{accepted, start, total, billed, violated, bankSum, figureSum, owedOf, daysOf, remaining, postingsOf}
 use Rattle.archive.specs.Entries.{entriesOf}
 use Rattle.archive.specs.Reading.{checked, listOf}
 use Rattle.archive.specs.declared.replaying.Replay.{Replay}
@@ -15,6 +16,11 @@ use Rattle.archive.specs.declared.replaying.Figures.{Figures}
 -- the entries of an archive; none where it is refused
 unfoldable pub heldBy : List ℕ → List (List ℕ)
 heldBy a = cond (eqb (checked a .number) 0) (entriesOf (listOf a)) []
+
+-- how many lines count, each as 1 or 0
+unfoldable pub countOf : (Line → ℕ) → List Line → ℕ
+countOf f [] = 0
+countOf f (x ∷ xs) = f x + countOf f xs
 
 unfoldable pub asAccepted : Line → ℕ
 asAccepted x = cond (isAccepted x) 1 0
@@ -43,7 +49,7 @@ figuresOf a =
       figure = panelOf (replayed a .ledger) .figure;
     }
 
--- ---- demand 3, of every archive: the ledger's claims over every list hold of what the archive holds
+-- ---- demand 3, of every archive: the claims over every list hold of what the archive holds
 
 abbrev pub acceptedOf : List ℕ → List Line
 acceptedOf a = accepted (history fresh (heldBy a))
@@ -55,13 +61,13 @@ abbrev pub FigureAddsUp : Type 0
 FigureAddsUp = (a : List ℕ) → figuresOf a .figure ≡ record { 0 = figureSum (acceptedOf a) }
 
 abbrev pub DebtsAddUp : Type 0
-DebtsAddUp = (a : List ℕ) (i : ℕ) → i < 16 → owedOf (replayed a .ledger) i ≡ sumOf (billed i) (acceptedOf a)
+DebtsAddUp = (a : List ℕ) (i : ℕ) → i < 16 → owedOf (replayed a .ledger) i ≡ total (billed i) start (acceptedOf a)
 
 abbrev pub DaysAddUp : Type 0
-DaysAddUp = (a : List ℕ) (i : ℕ) → i < 16 → daysOf (replayed a .ledger) i ≡ countOf (violated i) (acceptedOf a)
+DaysAddUp = (a : List ℕ) (i : ℕ) → i < 16 → daysOf (replayed a .ledger) i ≡ total (violated i) start (acceptedOf a)
 
 abbrev pub StrikingChangesNothing : Type 0
 StrikingChangesNothing =
     (a : List ℕ) (marks : List Bool)
-    → (history fresh (bytesOf (remaining marks (history fresh (heldBy a)))) ≡ remaining marks (history fresh (heldBy a)))
-    × (run fresh (bytesOf (remaining marks (history fresh (heldBy a)))) ≡ replayed a .ledger)
+    → (history fresh (postingsOf (remaining marks (history fresh (heldBy a)))) ≡ remaining marks (history fresh (heldBy a)))
+    × (run fresh (postingsOf (remaining marks (history fresh (heldBy a)))) ≡ replayed a .ledger)

@@ -11,7 +11,7 @@ use Rattle.tariff.specs.declared.dates.Date.{Date}
 use Rattle.ledger.specs.Entries.{entryOf}
 use Rattle.ledger.specs.State.{fresh}
 use Rattle.ledger.specs.Posting.{posted}
-use Rattle.ledger.specs.History.{bankOf}
+use Rattle.ledger.specs.Panel.{bankOf}
 use Rattle.ledger.specs.declared.state.Ledger.{Ledger}
 use Rattle.archive.specs.Entries.{closesMonth}
 use Rattle.archive.specs.Replay.{heldBy}

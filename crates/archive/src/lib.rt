@@ -158,7 +158,7 @@ pub fn round_trips()
     ensures writes_back { λ r. ⌜ WritesBack ⌝ }
 {}
 
-// Demand 3, of every archive: what `ledger::every_history` claims of every list holds of the entries that an archive holds.
+// Demand 3, of every archive: what `history::every_history` claims of every list holds of the entries that an archive holds.
 pub fn every_archive()
     ensures banks { λ r. ⌜ BanksAddUp ⌝ }
     ensures figure { λ r. ⌜ FigureAddsUp ⌝ }

@@ -4,9 +4,9 @@ ghost use mathlib.Core.Bool.{cond};
 ghost use Prim.Native.Nat.{_≤_};
 ghost use lib.Dec.{eqb};
 ghost use Rattle.ledger.specs.State.{fresh};
-ghost use Rattle.ledger.specs.History.{history, run, countOf};
+ghost use Rattle.ledger.specs.Running.{history, run};
 ghost use Rattle.archive.specs.Entries.{entriesOf};
-ghost use Rattle.archive.specs.Replay.{asAccepted, asRefused};
+ghost use Rattle.archive.specs.Replay.{countOf, asAccepted, asRefused};
 use ledger::Ledger;
 use tariff::amounts::Units;
 

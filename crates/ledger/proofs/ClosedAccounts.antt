@@ -3,7 +3,6 @@ use Prim.Native.Nat.{ℕ, _+_}
 use mathlib.Core.Path.{_≡_, refl, sym, ap, _∙_}
 use mathlib.Core.Bool.{Bool, true, false, cond, false≢true}
 use mathlib.Core.List.{map}
-use native.Mathlib.Omega.{arith}
 use lib.Dec.{eqb}
 use lib.IntN.{ℤ, pos, negℤ, _+ℤ_, _-ℤ_, +ℤ-idr, +ℤ-assoc}
 use lib.ListN.{getD, List·getD-map}
@@ -25,21 +24,51 @@ use Rattle.ledger.specs.declared.closing.Closed.{Closed}
 abbrev pub openOwed : Account → ℤ
 openOwed a = cond (a .opened) (a .owed .0) (pos 0)
 
-abbrev pub openDays : Account → ℕ
-openDays a = cond (a .opened) (a .«violation_days») 0
+abbrev pub openDays : Account → ℤ
+openDays a = cond (a .opened) (pos (a .«violation_days»)) (pos 0)
 
--- what a report adds to a bank
+-- what a report adds to a bank, and to the violation days
 abbrev pub reportMoves : Report → ℤ
 reportMoves r = pos (inward (r .cash) .0) -ℤ pos (outward (r .cash) .0) -ℤ pos (r .forfeit .0)
+
+abbrev pub reportDays : Report → ℤ
+reportDays r = cond (eqb (r .mask) 0) (pos 0) (pos 1)
 
 pub record Accounted (a : Account) (c : Closed) : Type 0 where
   pub bank : openBank (c .account) ≡ openBank a +ℤ reportMoves (c .report)
   pub owed : openOwed (c .account) ≡ openOwed a +ℤ c .report .bill .0
-  pub days : openDays (c .account) ≡ openDays a + cond (eqb (c .report .mask) 0) 0 1
+  pub days : openDays (c .account) ≡ openDays a +ℤ reportDays (c .report)
 
-pub chosen : {A : Type 0} (t : Bool) (x y : A) → t ≡ true → cond t x y ≡ x
-chosen true x y h = refl
-chosen false x y h = absurd (false≢true h)
+-- a number of an open account that grows by y
+pub grows : (o : Bool) (new old y : ℤ) → o ≡ true → new ≡ old +ℤ y → cond o new (pos 0) ≡ cond o old (pos 0) +ℤ y
+grows true new old y h g = g
+grows false new old y h g = absurd (false≢true h)
+
+day-more : (t : Bool) (m : ℕ) → pos (m + cond t 0 1) ≡ pos m +ℤ cond t (pos 0) (pos 1)
+day-more true m = refl
+day-more false m = refl
+
+-- ---- nothing to report
+
+pub quiet-in : inward (quiet .cash) .0 ≡ 0
+unfolding quiet
+quiet-in = inward-zero (quiet .cash) refl
+
+pub quiet-out : outward (quiet .cash) .0 ≡ 0
+unfolding quiet
+quiet-out = outward-zero (quiet .cash) refl
+
+pub quiet-forfeit : quiet .forfeit .0 ≡ 0
+unfolding quiet
+quiet-forfeit = refl
+
+pub quiet-bill : quiet .bill .0 ≡ pos 0
+unfolding quiet
+quiet-bill = refl
+
+pub quiet-mask : quiet .mask ≡ 0
+unfolding quiet
+quiet-mask = refl
 
 module _ (t : Terms) (e : Entry) (a : Account) where
   of-not-open : a .opened ≡ false → Accounted a (notOpen a)
@@ -48,25 +77,29 @@ module _ (t : Terms) (e : Entry) (a : Account) where
       record {
         bank = rw (inward-zero (quiet .cash) refl, outward-zero (quiet .cash) refl) (sym (+ℤ-idr (openBank a)));
         owed = sym (+ℤ-idr (openOwed a));
-        days = omega arith;
+        days = sym (+ℤ-idr (openDays a));
       }
 
   abbrev cash : Units
   cash = cashAt (e .date) a
+
+  abbrev mask : ℕ
+  mask = violationsOf (e .date) a
+
+  more-days : a .opened ≡ true → cond (a .opened) (pos (a .«violation_days» + cond (eqb mask 0) 0 1)) (pos 0) ≡ openDays a +ℤ cond (eqb mask 0) (pos 0) (pos 1)
+  more-days o =
+      grows (a .opened) (pos (a .«violation_days» + cond (eqb mask 0) 0 1)) (pos (a .«violation_days»)) (cond (eqb mask 0) (pos 0) (pos 1)) o
+      (day-more (eqb mask 0) (a .«violation_days»))
 
   of-day : a .opened ≡ true → Accounted a (closedDay (e .date) a)
   unfolding closedDay dayClosed dayEnd openBank
   of-day o =
       record {
         bank =
-            chosen (a .opened) (sum (a .bank) cash .0) (pos 0) o
-            ∙ sum-value (a .bank) cash
-            ∙ ap (λ (z : ℤ). a .bank .0 +ℤ z) (in-and-out cash ∙ sym (+ℤ-idr (pos (inward cash .0) -ℤ pos (outward cash .0))))
-            ∙ ap (λ (z : ℤ). z +ℤ (pos (inward cash .0) -ℤ pos (outward cash .0) -ℤ pos 0)) (sym (chosen (a .opened) (a .bank .0) (pos 0) o));
+            grows (a .opened) (sum (a .bank) cash .0) (a .bank .0) (pos (inward cash .0) -ℤ pos (outward cash .0) -ℤ pos 0) o
+            (sum-value (a .bank) cash ∙ ap (λ (z : ℤ). a .bank .0 +ℤ z) (in-and-out cash ∙ sym (+ℤ-idr (pos (inward cash .0) -ℤ pos (outward cash .0)))));
         owed = sym (+ℤ-idr (openOwed a));
-        days =
-            chosen (a .opened) (a .«violation_days» + cond (eqb (violationsOf (e .date) a) 0) 0 1) 0 o
-            ∙ ap (λ (z : ℕ). z + cond (eqb (violationsOf (e .date) a) 0) 0 1) (sym (chosen (a .opened) (a .«violation_days») 0 o));
+        days = more-days o;
       }
 
   abbrev c : Account
@@ -80,18 +113,14 @@ module _ (t : Terms) (e : Entry) (a : Account) where
   of-month o =
       record {
         bank =
-            chosen (a .opened) (less (sum (a .bank) cash) (forfeitAt (e .date) t c) .0) (pos 0) o
-            ∙ less-value (sum (a .bank) cash) (forfeitAt (e .date) t c)
+            grows (a .opened) (less (sum (a .bank) cash) (forfeitAt (e .date) t c) .0) (a .bank .0) (pos (inward cash .0) -ℤ pos (outward cash .0) -ℤ forfeit) o
+            (less-value (sum (a .bank) cash) (forfeitAt (e .date) t c)
             ∙ ap (λ (z : ℤ). z -ℤ forfeit) (sum-value (a .bank) cash ∙ ap (λ (z : ℤ). a .bank .0 +ℤ z) (in-and-out cash))
-            ∙ +ℤ-assoc (a .bank .0) (pos (inward cash .0) -ℤ pos (outward cash .0)) (negℤ forfeit)
-            ∙ ap (λ (z : ℤ). z +ℤ (pos (inward cash .0) -ℤ pos (outward cash .0) -ℤ forfeit)) (sym (chosen (a .opened) (a .bank .0) (pos 0) o));
+            ∙ +ℤ-assoc (a .bank .0) (pos (inward cash .0) -ℤ pos (outward cash .0)) (negℤ forfeit));
         owed =
-            chosen (a .opened) (added (a .owed) (billAt t (pricesOf e) c) .0) (pos 0) o
-            ∙ added-value (a .owed) (billAt t (pricesOf e) c)
-            ∙ ap (λ (z : ℤ). z +ℤ billAt t (pricesOf e) c .0) (sym (chosen (a .opened) (a .owed .0) (pos 0) o));
-        days =
-            chosen (a .opened) (a .«violation_days» + cond (eqb (violationsOf (e .date) a) 0) 0 1) 0 o
-            ∙ ap (λ (z : ℕ). z + cond (eqb (violationsOf (e .date) a) 0) 0 1) (sym (chosen (a .opened) (a .«violation_days») 0 o));
+            grows (a .opened) (added (a .owed) (billAt t (pricesOf e) c) .0) (a .owed .0) (billAt t (pricesOf e) c .0) o
+            (added-value (a .owed) (billAt t (pricesOf e) c));
+        days = more-days o;
       }
 
   pub accounted : Accounted a (closedAccount t e a)

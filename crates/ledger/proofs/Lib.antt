@@ -7,13 +7,12 @@ pub mod Admitted
 pub mod OneAccount
 pub mod Closable
 pub mod Banks
-pub mod Sums
-pub mod Moves
 pub mod ClosedAccounts
 pub mod OneStep
 pub mod StepKinds
 pub mod StepClosing
-pub mod Histories
+pub mod EveryPosting
+pub mod FreshLedger
+pub mod Figures
 pub mod Fields
-pub mod Replaying
 pub mod LentPosting

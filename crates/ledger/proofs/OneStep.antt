@@ -1,101 +1,75 @@
--- What one posting does, whatever it answers.
-use Prim.Native.Nat.{ℕ, _+_, _<_}
+-- One posting, whatever it answers: a refusal leaves the ledger, and an acceptance adds to each account what its kind and its reports say. The sums over lists stand on this.
+use Prim.Native.Nat.{ℕ, _<_}
 use mathlib.Core.Path.{_≡_, refl, sym, ap, _∙_}
 use mathlib.Core.Bool.{Bool, true, false, cond, not, _&&_, _||_, true≢false, false≢true}
 use mathlib.Core.List.{List}
 use native.Mathlib.Omega.{arith}
 use lib.Dec.{eqb}
-use lib.IntN.{ℤ, pos, _+ℤ_, +ℤ-idr}
+use lib.IntN.{ℤ, pos, negℤ, _+ℤ_, _-ℤ_, +ℤ-idr}
 use lib.ListN.{length, getD, set, length-set}
 use lib.Seq.{getD-set-same, getD-set-other}
 use borrow.Author.Tests.{eqb-true, eqb-false}
 use Rattle.tariff.specs.Dates.{real}
 use Rattle.tariff.specs.Terms.{termsInRange}
-use Rattle.tariff.proofs.Bools.{and-left, and-right}
-use Rattle.ledger.specs.Entries.{entryOf}
+use Rattle.tariff.proofs.Bools.{and-left, and-right, either}
+use Rattle.ledger.specs.Entries.{entryOf, companySells}
 use Rattle.ledger.specs.State.{nobody, accountAt, withAccount}
 use Rattle.ledger.specs.Ranges.{accountInRange, everyAccount, inRange}
-use Rattle.ledger.specs.Answers.{plain, refused, settle}
-use Rattle.ledger.specs.Panel.{openBank}
-use Rattle.ledger.specs.History.{rateAfter, billed, violated, transferIn, transferOut, overFirst, bankOf, owedOf, daysOf}
+use Rattle.ledger.specs.Answers.{quiet, plain, refused, settle}
+use Rattle.ledger.specs.Deliver.{amountUnder}
+use Rattle.ledger.specs.Panel.{openBank, bankOf}
 use Rattle.ledger.specs.declared.state.Account.{Account}
 use Rattle.ledger.specs.declared.state.Ledger.{Ledger}
+use Rattle.ledger.specs.declared.entries.Entry.{Entry}
+use Rattle.ledger.specs.declared.answers.Answer.{Answer}
+use Rattle.ledger.specs.declared.answers.Report.{Report}
 use Rattle.ledger.specs.declared.answers.Posted.{Posted}
 use Rattle.ledger.proofs.Lists.{every-set}
-use Rattle.ledger.proofs.Sums.{over-cong}
-use Rattle.ledger.proofs.Moves.{line, moved, no-bill, no-violation, transfer-in-at, transfer-out-at, rate-at}
-use Rattle.ledger.proofs.ClosedAccounts.{openOwed, openDays}
+use Rattle.ledger.proofs.ClosedAccounts.{openOwed, openDays, reportMoves, reportDays}
 
--- r is the retainage of the terms in force
-abbrev pub Rated : Ledger → ℕ → Type 0
-Rated l r = l .begun ≡ true → l .terms .retainage ≡ r
+-- what holds of every ledger on the way from a fresh one
+pub record Sound (l : Ledger) : Type 0 where
+  pub sized : length (l .accounts) ≡ 16
+  pub ranged : inRange l ≡ true
 
--- a value that counts only where the number is 0
-abbrev pub if-accepted : {A : Type 0} → ℕ → A → A → A
-if-accepted n x y = cond (eqb n 0) x y
+-- what a posting of a kind adds to the bank of account i
+abbrev pub gainAt : ℕ → Ledger → Entry → Answer → ℕ → ℤ
+gainAt kind l e x i =
+    cond (eqb kind 2) (cond (eqb (e .a) i) (pos (e .w2)) (pos 0))
+    (cond (eqb kind 3) (cond (eqb (e .a) i) (amountUnder (l .terms .retainage) e .0) (pos 0))
+    (cond (eqb kind 4) (cond (eqb (e .b) i) (pos (e .w1)) (pos 0) -ℤ cond (eqb (e .a) i) (pos (e .w1)) (pos 0))
+    (cond (eqb kind 5) (cond (eqb (e .a) i) (cond (companySells e) (pos (e .w1)) (negℤ (pos (e .w1)))) (pos 0))
+    (cond (eqb kind 8 || eqb kind 9) (reportMoves (getD (x .reports) i quiet)) (pos 0)))))
+
+-- what it reports of account i: only closings report
+abbrev pub reportAt : ℕ → Answer → ℕ → Report
+reportAt kind x i = cond (eqb kind 8 || eqb kind 9) (getD (x .reports) i quiet) quiet
+
+-- an accepted posting makes the next ledger, and adds what its entry and its answer say
+pub record Taken (l : Ledger) (e : Entry) (x : Answer) (next : Ledger) : Type 0 where
+  pub sound : Sound next
+  pub banks : (i : ℕ) → bankOf next i ≡ bankOf l i +ℤ gainAt (e .kind) l e x i
+  pub debts : (i : ℕ) → openOwed (accountAt next i) ≡ openOwed (accountAt l i) +ℤ reportAt (e .kind) x i .bill .0
+  pub days : (i : ℕ) → openDays (accountAt next i) ≡ openDays (accountAt l i) +ℤ reportDays (reportAt (e .kind) x i)
+  pub retainage : next .terms .retainage ≡ cond (eqb (e .kind) 1) (e .w4) (l .terms .retainage)
+  pub started : eqb (e .kind) 1 ≡ false → l .begun ≡ true
+  pub parties : e .kind ≡ 4 → (e .a < 16) × (e .b < 16)
 
 pub record Step (l : Ledger) (b : List ℕ) (p : Posted) : Type 0 where
-  pub sized : length (p .ledger .accounts) ≡ 16
   pub kept : eqb (p .answer .number) 0 ≡ false → p .ledger ≡ l
-  pub ranged : inRange l ≡ true → inRange (p .ledger) ≡ true
-  pub rated : (r : ℕ) → Rated l r → Rated (p .ledger) (if-accepted (p .answer .number) (rateAfter r (line b (p .answer))) r)
-  pub banks : (r : ℕ) → Rated l r → (i : ℕ) → bankOf (p .ledger) i ≡ bankOf l i +ℤ if-accepted (p .answer .number) (moved i r (line b (p .answer))) (pos 0)
-  pub debts : (i : ℕ) → owedOf (p .ledger) i ≡ owedOf l i +ℤ if-accepted (p .answer .number) (billed i (line b (p .answer))) (pos 0)
-  pub days : (i : ℕ) → daysOf (p .ledger) i ≡ daysOf l i + if-accepted (p .answer .number) (violated i (line b (p .answer))) 0
-  pub balanced : eqb (p .answer .number) 0 ≡ true → overFirst 16 (λ i. transferIn i (line b (p .answer))) ≡ overFirst 16 (λ i. transferOut i (line b (p .answer)))
+  pub taken : eqb (p .answer .number) 0 ≡ true → Taken l (entryOf b) (p .answer) (p .ledger)
 
--- what is to be shown of a posting that is accepted with a plain answer
-pub record Taken (l : Ledger) (b : List ℕ) (next : Ledger) : Type 0 where
-  pub sized : length (next .accounts) ≡ 16
-  pub ranged : inRange next ≡ true
-  pub rated : (r : ℕ) → Rated l r → Rated next (rateAfter r (line b (plain 0)))
-  pub banks : (r : ℕ) → Rated l r → (i : ℕ) → bankOf next i ≡ bankOf l i +ℤ moved i r (line b (plain 0))
-  pub debts : (i : ℕ) → owedOf next i ≡ owedOf l i
-  pub days : (i : ℕ) → daysOf next i ≡ daysOf l i
-  pub balanced : overFirst 16 (λ i. transferIn i (line b (plain 0))) ≡ overFirst 16 (λ i. transferOut i (line b (plain 0)))
-
-module _ (l : Ledger) (b : List ℕ) (n : length (l .accounts) ≡ 16) where
-  pub step-refused : (k : ℕ) → eqb k 0 ≡ false → Step l b (refused l k)
+module _ (l : Ledger) (b : List ℕ) where
+  pub step-refused : (n : ℕ) → eqb n 0 ≡ false → Step l b (refused l n)
   unfolding refused plain
-  step-refused k h =
-      record {
-        sized = n;
-        kept = λ _. refl;
-        ranged = λ r. r;
-        rated = λ r q. rw h q;
-        banks = λ r q i. rw h (sym (+ℤ-idr (bankOf l i)));
-        debts = λ i. rw h (sym (+ℤ-idr (owedOf l i)));
-        days = λ i. rw h (omega arith);
-        balanced = λ z. absurd (false≢true (sym h ∙ z));
-      }
+  step-refused n h = record { kept = λ _. refl; taken = λ z. absurd (false≢true (sym h ∙ z)) }
 
-  taken : (next : Ledger) → Taken l b next → Step l b (refused next 0)
-  unfolding refused
-  taken next t =
-      record {
-        sized = t .sized;
-        kept = λ z. absurd (true≢false (number-0 z));
-        ranged = λ _. t .ranged;
-        rated = λ r q. rw numbered (t .rated r q);
-        banks = λ r q i. rw numbered (t .banks r q i);
-        debts = λ i. rw (numbered, no-bill i 0 b) (t .debts i ∙ sym (+ℤ-idr (owedOf l i)));
-        days = λ i. rw (numbered, no-violation i 0 b) (omega (arith, t .days i));
-        balanced = λ _. t .balanced;
-      }
-    where
-      numbered : eqb (plain 0 .number) 0 ≡ true
-      numbered = unfold plain in refl
-
-      number-0 : eqb (plain 0 .number) 0 ≡ false → true ≡ false
-      number-0 z = sym numbered ∙ z
-
-  pub step-settle : (k : ℕ) (next : Ledger) → (k ≡ 0 → Taken l b next) → Step l b (settle l k next)
-  unfolding settle refused
-  step-settle k next f = go (eqb k 0) refl
-    where
-      go : (t : Bool) → eqb k 0 ≡ t → Step l b (record { answer = plain k; ledger = cond t next l })
-      go true e = rw (eqb-true k 0 e) (taken next (f (eqb-true k 0 e)))
-      go false e = step-refused k e
+  pub step-settle : (n : ℕ) (next : Ledger) → (n ≡ 0 → Taken l (entryOf b) (plain 0) next) → Step l b (settle l n next)
+  unfolding settle refused plain
+  step-settle n next f =
+      either (λ (m : Ledger). Step l b (record { answer = plain n; ledger = m })) (eqb n 0) next l
+      (λ z. record { kept = λ y. absurd (true≢false (sym z ∙ y)); taken = λ _. rw (eqb-true n 0 z) (f (eqb-true n 0 z)) })
+      (step-refused n)
 
 -- ---- one account anew
 
@@ -118,47 +92,56 @@ module _ (l : Ledger) (a : ℕ) (v : Account) (n : length (l .accounts) ≡ 16) 
       rw (and-left (not (l .begun) || (real (l .date) && termsInRange (l .terms))) (everyAccount accountInRange (l .accounts)) r)
       (every-set accountInRange (l .accounts) a v (and-right (not (l .begun) || (real (l .date) && termsInRange (l .terms))) (everyAccount accountInRange (l .accounts)) r) w)
 
-  -- a number of the account that grew by x
-  pub grown : (f : Account → ℤ) (x : ℤ) → f v ≡ f (accountAt l a) +ℤ x → (i : ℕ) → f (accountAt (withAccount l a v) i) ≡ f (accountAt l i) +ℤ cond (eqb a i) x (pos 0)
-  grown f x g i = ap f (account-stored i) ∙ go (eqb a i) refl
+  -- a number of the account that grew by y
+  pub grown : (f : Account → ℤ) (y : ℤ) → f v ≡ f (accountAt l a) +ℤ y → (i : ℕ) → f (accountAt (withAccount l a v) i) ≡ f (accountAt l i) +ℤ cond (eqb a i) y (pos 0)
+  grown f y g i = ap f (account-stored i) ∙ go (eqb a i) refl
     where
-      go : (t : Bool) → eqb a i ≡ t → f (cond t v (accountAt l i)) ≡ f (accountAt l i) +ℤ cond t x (pos 0)
+      go : (t : Bool) → eqb a i ≡ t → f (cond t v (accountAt l i)) ≡ f (accountAt l i) +ℤ cond t y (pos 0)
       go true e = rw (← eqb-true a i e) g
       go false e = sym (+ℤ-idr (f (accountAt l i)))
 
   -- one that stayed
-  pub stayed : {B : Type 0} (f : Account → B) → f v ≡ f (accountAt l a) → (i : ℕ) → f (accountAt (withAccount l a v) i) ≡ f (accountAt l i)
+  pub stayed : (f : Account → ℤ) → f v ≡ f (accountAt l a) → (i : ℕ) → f (accountAt (withAccount l a v) i) ≡ f (accountAt l i)
   stayed f g i = ap f (account-stored i) ∙ go (eqb a i) refl
     where
       go : (t : Bool) → eqb a i ≡ t → f (cond t v (accountAt l i)) ≡ f (accountAt l i)
       go true e = rw (← eqb-true a i e) g
       go false e = refl
 
--- a kind that is no transfer
-module _ (b : List ℕ) (k : ℕ) (is : entryOf b .kind ≡ k) (no-transfer : eqb k 4 ≡ false) where
-  pub no-transfers : overFirst 16 (λ i. transferIn i (line b (plain 0))) ≡ overFirst 16 (λ i. transferOut i (line b (plain 0)))
-  no-transfers = over-cong 16 (λ i. transferIn i (line b (plain 0))) (λ i. transferOut i (line b (plain 0))) (λ i. transfer-in-at i 0 b (plain 0) k is ∙ rw no-transfer (sym (transfer-out-at i 0 b (plain 0) k is ∙ rw no-transfer)))
+-- ---- a kind n that is no closing
 
--- a kind that leaves the terms
-module _ (l : Ledger) (b : List ℕ) (k : ℕ) (is : entryOf b .kind ≡ k) (no-terms : eqb k 1 ≡ false) where
-  pub keeps-rate : (r : ℕ) (next : Ledger) → next .begun ≡ l .begun → next .terms ≡ l .terms → Rated l r → Rated next (rateAfter r (line b (plain 0)))
-  keeps-rate r next p q g = λ o. ap (λ t. t .retainage) q ∙ g (sym p ∙ o) ∙ sym (rate-at 0 r b (plain 0) k is ∙ rw no-terms)
+module _ (e : Entry) (n : ℕ) (is : e .kind ≡ n) (no-closing : eqb n 8 || eqb n 9 ≡ false) where
+  no-report : (i : ℕ) → reportAt (e .kind) (plain 0) i ≡ quiet
+  no-report i = ap (λ (m : ℕ). reportAt m (plain 0) i) is ∙ rw no-closing
 
--- a kind that stores one account
-module _ (l : Ledger) (b : List ℕ) (n : length (l .accounts) ≡ 16) (k : ℕ) (is : entryOf b .kind ≡ k) (no-terms : eqb k 1 ≡ false) (no-transfer : eqb k 4 ≡ false) where
-  pub stores : (v : Account) (x : ℕ → ℤ) → entryOf b .a < 16 → inRange l ≡ true → accountInRange v ≡ true
-      → openOwed v ≡ openOwed (accountAt l (entryOf b .a)) → openDays v ≡ openDays (accountAt l (entryOf b .a))
-      → ((r : ℕ) → Rated l r → openBank v ≡ openBank (accountAt l (entryOf b .a)) +ℤ x r)
-      → ((r i : ℕ) → moved i r (line b (plain 0)) ≡ cond (eqb (entryOf b .a) i) (x r) (pos 0))
-      → Taken l b (withAccount l (entryOf b .a) v)
-  unfolding bankOf owedOf daysOf
-  stores v x h r w o d g m =
+  pub same-debt : (i : ℕ) (z : ℤ) → z ≡ z +ℤ reportAt (e .kind) (plain 0) i .bill .0
+  unfolding quiet
+  same-debt i z = sym (ap (λ (r : Report). z +ℤ r .bill .0) (no-report i) ∙ +ℤ-idr z)
+
+  pub same-days : (i : ℕ) (z : ℤ) → z ≡ z +ℤ reportDays (reportAt (e .kind) (plain 0) i)
+  unfolding quiet
+  same-days i z = sym (ap (λ (r : Report). z +ℤ reportDays r) (no-report i) ∙ +ℤ-idr z)
+
+  -- one that leaves the terms
+  pub same-rate : (l next : Ledger) → eqb n 1 ≡ false → next .terms ≡ l .terms → next .terms .retainage ≡ cond (eqb (e .kind) 1) (e .w4) (l .terms .retainage)
+  same-rate l next f q = ap (λ t. t .retainage) q ∙ sym (ap (λ (m : ℕ). cond (eqb m 1) (e .w4) (l .terms .retainage)) is ∙ rw f)
+
+  -- one that stores one account, whose bank grows by y
+  pub stores : (l : Ledger) (v : Account) (y : ℤ) → eqb n 1 ≡ false → eqb n 4 ≡ false → Sound l → l .begun ≡ true → e .a < 16 → accountInRange v ≡ true
+      → openBank v ≡ openBank (accountAt l (e .a)) +ℤ y
+      → openOwed v ≡ openOwed (accountAt l (e .a))
+      → openDays v ≡ openDays (accountAt l (e .a))
+      → ((i : ℕ) → gainAt n l e (plain 0) i ≡ cond (eqb (e .a) i) y (pos 0))
+      → Taken l e (plain 0) (withAccount l (e .a) v)
+  unfolding bankOf
+  stores l v y no-terms no-transfer s begun h w g o d m =
+      let a = e .a in
       record {
-        sized = size-stored l (entryOf b .a) v n h;
-        ranged = ranged-stored l (entryOf b .a) v n h r w;
-        rated = λ s q. keeps-rate l b k is no-terms s (withAccount l (entryOf b .a) v) (unfold withAccount in refl) (unfold withAccount in refl) q;
-        banks = λ s q i. grown l (entryOf b .a) v n h openBank (x s) (g s q) i ∙ ap (λ (z : ℤ). openBank (accountAt l i) +ℤ z) (sym (m s i));
-        debts = λ i. stayed l (entryOf b .a) v n h openOwed o i;
-        days = λ i. stayed l (entryOf b .a) v n h openDays d i;
-        balanced = no-transfers b k is no-transfer;
+        sound = record { sized = size-stored l a v (s .sized) h; ranged = ranged-stored l a v (s .sized) h (s .ranged) w };
+        banks = λ i. grown l a v (s .sized) h openBank y g i ∙ ap (λ (z : ℤ). openBank (accountAt l i) +ℤ z) (sym (ap (λ (m : ℕ). gainAt m l e (plain 0) i) is ∙ m i));
+        debts = λ i. stayed l a v (s .sized) h openOwed o i ∙ same-debt i (openOwed (accountAt l i));
+        days = λ i. stayed l a v (s .sized) h openDays d i ∙ same-days i (openDays (accountAt l i));
+        retainage = same-rate l (withAccount l a v) no-terms (unfold withAccount in refl);
+        started = λ _. begun;
+        parties = λ z. absurd (eqb-false n 4 no-transfer (sym is ∙ z));
       }

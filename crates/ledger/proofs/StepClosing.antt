@@ -1,13 +1,13 @@
--- What an accepted closing does.
-use Prim.Native.Nat.{ℕ, _+_, _≤_, _<_}
+-- An accepted closing adds to each account what it reports of it, and moves the date to a real one.
+use Prim.Native.Nat.{ℕ, _≤_, _<_}
 use mathlib.Core.Path.{_≡_, refl, sym, ap, _∙_}
-use mathlib.Core.Bool.{Bool, true, false, cond, not, _&&_, _||_, true≢false}
+use mathlib.Core.Bool.{Bool, true, false, not, _&&_, _||_, true≢false}
 use mathlib.Core.List.{List, [], _∷_, map}
 use native.Mathlib.Omega.{arith}
 use lib.Dec.{eqb}
-use lib.IntN.{ℤ, pos, _+ℤ_}
-use lib.ListN.{length, length-map}
-use borrow.Author.Tests.{ne-eqb, not-false}
+use lib.IntN.{ℤ, _+ℤ_}
+use lib.ListN.{length-map}
+use borrow.Author.Tests.{eq-eqb, ne-eqb, eqb-false, not-false}
 use Rattle.tariff.specs.Dates.{real, lastOfMonth, lastDate, dayAfter}
 use Rattle.tariff.specs.Terms.{termsInRange}
 use Rattle.tariff.specs.declared.terms.Terms.{Terms}
@@ -19,19 +19,16 @@ use Rattle.ledger.specs.State.{accountAt}
 use Rattle.ledger.specs.Ranges.{accountInRange, everyAccount, inRange}
 use Rattle.ledger.specs.Closing.{closedAccount, accountClosed, reportOf, staysInRange, wrongClosing, closingChecks, closed}
 use Rattle.ledger.specs.Posting.{admission}
-use Rattle.ledger.specs.Panel.{openBank}
-use Rattle.ledger.specs.History.{rateAfter, cashIn, cashOut, forfeited, billed, violated, reported, transferIn, transferOut, bankOf, owedOf, daysOf}
+use Rattle.ledger.specs.Panel.{openBank, bankOf}
 use Rattle.ledger.specs.declared.state.Account.{Account}
 use Rattle.ledger.specs.declared.state.Ledger.{Ledger}
 use Rattle.ledger.specs.declared.entries.Entry.{Entry}
 use Rattle.ledger.specs.declared.answers.Report.{Report}
 use Rattle.ledger.proofs.Verdicts.{clear}
 use Rattle.ledger.proofs.Bounded.{begun-ranged}
-use Rattle.ledger.proofs.Admitted.{is-ranged, is-begun, is-real}
-use Rattle.ledger.proofs.Sums.{over-cong}
-use Rattle.ledger.proofs.Moves.{line, moved, closing-moves, transfer-in-at, transfer-out-at, rate-at}
-use Rattle.ledger.proofs.ClosedAccounts.{openOwed, openDays, reportMoves, accounted, account-closed, account-reported, chosen}
-use Rattle.ledger.proofs.OneStep.{Step}
+use Rattle.ledger.proofs.Admitted.{is-kind, is-begun, is-real}
+use Rattle.ledger.proofs.ClosedAccounts.{openOwed, openDays, reportMoves, reportDays, accounted, account-closed, account-reported}
+use Rattle.ledger.proofs.OneStep.{Sound, Taken, Step, gainAt, reportAt}
 
 both : (a b : Bool) → a ≡ true → b ≡ true → a && b ≡ true
 both a b p q = rw (p, q)
@@ -48,51 +45,36 @@ closed-ranged t e (x ∷ xs) h =
     rw (and-right (accountInRange (closedAccount t e x .day)) (accountInRange (closedAccount t e x .account)) (and-left (staysInRange t e x) (everyAccount (staysInRange t e) xs) h))
     (closed-ranged t e xs (and-right (staysInRange t e x) (everyAccount (staysInRange t e) xs) h))
 
-module _ (l : Ledger) (b : List ℕ) (n : length (l .accounts) ≡ 16) (h : admission l (entryOf b) ≡ 0) (k : 8 ≤ entryOf b .kind) where
-  abbrev e : Entry
-  e = entryOf b
-
+module _ (l : Ledger) (e : Entry) (s : Sound l) (h : admission l e ≡ 0) (c : 8 ≤ e .kind) where
   -- no closing is of another kind
-  isnt : (m : ℕ) → m < 8 → eqb (entryOf b .kind) m ≡ false
-  isnt m q = ne-eqb (entryOf b .kind) m (λ z. omega arith)
+  isnt : (m : ℕ) → m < 8 → eqb (e .kind) m ≡ false
+  isnt m q = ne-eqb (e .kind) m (λ z. omega arith)
+
+  is-closing : eqb (e .kind) 8 || eqb (e .kind) 9 ≡ true
+  is-closing = go (eqb (e .kind) 8) refl
+    where
+      go : (t : Bool) → eqb (e .kind) 8 ≡ t → t || eqb (e .kind) 9 ≡ true
+      go true z = refl
+      go false z = eq-eqb (e .kind) 9 (omega (arith, eqb-false (e .kind) 8 z, is-kind l e h))
 
   begun : l .begun ≡ true
   begun = is-begun l e h (λ z. omega arith)
 
-  report-is : (i : ℕ) → reported i (line b (closed l e .answer)) ≡ closedAccount (l .terms) e (accountAt l i) .report
-  unfolding reported reportOf
-  report-is i = account-reported l e i
+  report-is : (i : ℕ) → reportAt (e .kind) (closed l e .answer) i ≡ closedAccount (l .terms) e (accountAt l i) .report
+  unfolding reportOf
+  report-is i = rw is-closing (account-reported l e i)
 
-  after : (i : ℕ) → accountAt (closed l e .ledger) i ≡ closedAccount (l .terms) e (accountAt l i) .account
+  after-is : (i : ℕ) → accountAt (closed l e .ledger) i ≡ closedAccount (l .terms) e (accountAt l i) .account
   unfolding accountClosed
-  after i = account-closed l e i
+  after-is i = account-closed l e i
 
-  answered-0 : eqb (closed l e .answer .number) 0 ≡ true
+  gain-is : (i : ℕ) → gainAt (e .kind) l e (closed l e .answer) i ≡ reportMoves (closedAccount (l .terms) e (accountAt l i) .report)
+  unfolding reportOf
+  gain-is i = rw (isnt 2 (omega arith), isnt 3 (omega arith), isnt 4 (omega arith), isnt 5 (omega arith), is-closing) (ap reportMoves (account-reported l e i))
+
+  keeps-rate : closed l e .ledger .terms .retainage ≡ l .terms .retainage
   unfolding closed
-  answered-0 = refl
-
-  moved-is : (r i : ℕ) → moved i r (line b (closed l e .answer)) ≡ reportMoves (closedAccount (l .terms) e (accountAt l i) .report)
-  unfolding cashIn cashOut forfeited
-  moved-is r i =
-      closing-moves i r b (closed l e .answer) (e .kind) refl (isnt 2 (omega arith), isnt 3 (omega arith), isnt 4 (omega arith), isnt 5 (omega arith))
-      ∙ ap reportMoves (report-is i)
-
-  billed-is : (i : ℕ) → billed i (line b (closed l e .answer)) ≡ closedAccount (l .terms) e (accountAt l i) .report .bill .0
-  unfolding billed
-  billed-is i = ap (λ (r : Report). r .bill .0) (report-is i)
-
-  violated-is : (i : ℕ) → violated i (line b (closed l e .answer)) ≡ cond (eqb (closedAccount (l .terms) e (accountAt l i) .report .mask) 0) 0 1
-  unfolding violated
-  violated-is i = ap (λ (r : Report). cond (eqb (r .mask) 0) 0 1) (report-is i)
-
-  no-transfers-here : (i : ℕ) → transferIn i (line b (closed l e .answer)) ≡ transferOut i (line b (closed l e .answer))
-  no-transfers-here i =
-      transfer-in-at i 0 b (closed l e .answer) (e .kind) refl
-      ∙ rw (isnt 4 (omega arith)) (sym (transfer-out-at i 0 b (closed l e .answer) (e .kind) refl ∙ rw (isnt 4 (omega arith))))
-
-  keeps-terms : closed l e .ledger .terms .retainage ≡ l .terms .retainage
-  unfolding closed
-  keeps-terms = refl
+  keeps-rate = refl
 
   next-real : verdict (closingChecks l e) ≡ 0 → real (dayAfter (e .date)) ≡ true
   unfolding closingChecks wrongClosing
@@ -104,32 +86,22 @@ module _ (l : Ledger) (b : List ℕ) (n : length (l .accounts) ≡ 16) (h : admi
   unfolding inRange closed closingChecks
   next-ranged o =
       both (not (l .begun) || (real (dayAfter (e .date)) && termsInRange (l .terms))) (everyAccount accountInRange (map (accountClosed (l .terms) e) (l .accounts)))
-      (or-else (not (l .begun)) (real (dayAfter (e .date)) && termsInRange (l .terms)) (both (real (dayAfter (e .date))) (termsInRange (l .terms)) (next-real o) (begun-ranged l (is-ranged l e h) begun .1)))
+      (or-else (not (l .begun)) (real (dayAfter (e .date)) && termsInRange (l .terms)) (both (real (dayAfter (e .date))) (termsInRange (l .terms)) (next-real o) (begun-ranged l (s .ranged) begun .1)))
       (closed-ranged (l .terms) e (l .accounts) (not-false (everyAccount (staysInRange (l .terms) e) (l .accounts)) (clear _ refl o 2)))
 
-  size-closed : length (closed l e .ledger .accounts) ≡ 16
-  unfolding closed
-  size-closed = length-map (l .accounts) (accountClosed (l .terms) e) ∙ n
-
-  pub step-closed : verdict (closingChecks l e) ≡ 0 → Step l b (closed l e)
-  unfolding bankOf owedOf daysOf
-  step-closed o =
+  takes-closing : verdict (closingChecks l e) ≡ 0 → Taken l e (closed l e .answer) (closed l e .ledger)
+  unfolding bankOf
+  takes-closing o =
       record {
-        sized = size-closed;
-        kept = λ z. absurd (true≢false (sym answered-0 ∙ z));
-        ranged = λ _. next-ranged o;
-        rated = λ r q. λ _. keeps-terms ∙ q begun ∙ sym (chosen (eqb (closed l e .answer .number) 0) (rateAfter r (line b (closed l e .answer))) r answered-0 ∙ rate-at 0 r b (closed l e .answer) (e .kind) refl ∙ rw (isnt 1 (omega arith)));
-        banks = λ r q i.
-            ap openBank (after i)
-            ∙ accounted (l .terms) e (accountAt l i) .bank
-            ∙ ap (λ (z : ℤ). openBank (accountAt l i) +ℤ z) (sym (chosen (eqb (closed l e .answer .number) 0) (moved i r (line b (closed l e .answer))) (pos 0) answered-0 ∙ moved-is r i));
-        debts = λ i.
-            ap openOwed (after i)
-            ∙ accounted (l .terms) e (accountAt l i) .owed
-            ∙ ap (λ (z : ℤ). openOwed (accountAt l i) +ℤ z) (sym (chosen (eqb (closed l e .answer .number) 0) (billed i (line b (closed l e .answer))) (pos 0) answered-0 ∙ billed-is i));
-        days = λ i.
-            ap openDays (after i)
-            ∙ accounted (l .terms) e (accountAt l i) .days
-            ∙ ap (λ (z : ℕ). openDays (accountAt l i) + z) (sym (chosen (eqb (closed l e .answer .number) 0) (violated i (line b (closed l e .answer))) 0 answered-0 ∙ violated-is i));
-        balanced = λ _. over-cong 16 (λ i. transferIn i (line b (closed l e .answer))) (λ i. transferOut i (line b (closed l e .answer))) no-transfers-here;
+        sound = record { sized = unfold closed in (length-map (l .accounts) (accountClosed (l .terms) e) ∙ s .sized); ranged = next-ranged o };
+        banks = λ i. ap openBank (after-is i) ∙ accounted (l .terms) e (accountAt l i) .bank ∙ ap (λ (z : ℤ). openBank (accountAt l i) +ℤ z) (sym (gain-is i));
+        debts = λ i. ap openOwed (after-is i) ∙ accounted (l .terms) e (accountAt l i) .owed ∙ ap (λ (r : Report). openOwed (accountAt l i) +ℤ r .bill .0) (sym (report-is i));
+        days = λ i. ap openDays (after-is i) ∙ accounted (l .terms) e (accountAt l i) .days ∙ ap (λ (r : Report). openDays (accountAt l i) +ℤ reportDays r) (sym (report-is i));
+        retainage = keeps-rate ∙ sym (rw (isnt 1 (omega arith)));
+        started = λ _. begun;
+        parties = λ z. absurd (omega (arith, z));
       }
+
+module _ (l : Ledger) (b : List ℕ) (s : Sound l) (h : admission l (entryOf b) ≡ 0) (c : 8 ≤ entryOf b .kind) where
+  pub step-closed : verdict (closingChecks l (entryOf b)) ≡ 0 → Step l b (closed l (entryOf b))
+  step-closed o = record { kept = λ z. absurd (true≢false (unfold closed in z)); taken = λ _. takes-closing l (entryOf b) s h c o }

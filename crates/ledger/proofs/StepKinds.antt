@@ -1,20 +1,21 @@
--- What an accepted posting of each kind does.
+-- Each kind does what its rule says and nothing more: its ledger differs from the one before in the accounts that it names, and their banks by what it adds.
 use Prim.Native.Nat.{ℕ, _<_}
 use mathlib.Core.Path.{_≡_, refl, sym, ap, _∙_}
 use mathlib.Core.Bool.{Bool, true, false, cond, _&&_, true≢false}
-use mathlib.Core.List.{List, map}
+use mathlib.Core.List.{map}
 use native.Mathlib.Omega.{arith}
 use lib.Dec.{eqb}
 use lib.IntN.{ℤ, pos, negℤ, _+ℤ_, _-ℤ_, +ℤ-idr, +ℤ-idl}
 use lib.ListN.{length, getD, length-map, List·getD-map}
-use borrow.Author.Tests.{eqb-true, not-false}
+use borrow.Author.Tests.{eqb-true, eqb-false, not-false}
 use Rattle.tariff.specs.Amounts.{sum, more, less}
 use Rattle.tariff.specs.Terms.{capacityOf}
 use Rattle.tariff.specs.declared.terms.Terms.{Terms}
-use Rattle.tariff.proofs.Bools.{and-left, and-right}
+use Rattle.tariff.specs.declared.terms.Capacity.{Capacity}
+use Rattle.tariff.proofs.Bools.{and-left, and-right, either}
 use Rattle.tariff.proofs.Laws.{sum-value, more-value, less-value, amount-value}
 use Rattle.ledger.specs.Checks.{verdict}
-use Rattle.ledger.specs.Entries.{entryOf, termsOf, companySells}
+use Rattle.ledger.specs.Entries.{termsOf, companySells}
 use Rattle.ledger.specs.State.{nobody, accountAt, withBank, withMonth, withMarks, withMeasure, withCapacity, withAccount}
 use Rattle.ledger.specs.Ranges.{accountInRange, inRange}
 use Rattle.ledger.specs.Answers.{plain}
@@ -26,17 +27,14 @@ use Rattle.ledger.specs.Trade.{traded, afterTrade, tradeChecks}
 use Rattle.ledger.specs.Measure.{remeasured, afterMeasure, measureChecks}
 use Rattle.ledger.specs.Usage.{metered, afterUsage, usageChecks}
 use Rattle.ledger.specs.Posting.{admission}
-use Rattle.ledger.specs.Panel.{openBank}
-use Rattle.ledger.specs.History.{transferIn, transferOut, bankOf, owedOf, daysOf}
+use Rattle.ledger.specs.Panel.{openBank, bankOf}
 use Rattle.ledger.specs.declared.state.Account.{Account}
 use Rattle.ledger.specs.declared.state.Ledger.{Ledger}
 use Rattle.ledger.specs.declared.entries.Entry.{Entry}
 use Rattle.ledger.proofs.Verdicts.{clear}
-use Rattle.ledger.proofs.Admitted.{is-ranged, is-begun, a-fits, b-fits, transfer-fits}
-use Rattle.ledger.proofs.Sums.{over-cong, only-one}
-use Rattle.ledger.proofs.Moves.{line, terms-move, enrol-moves, deliver-moves, transfer-moves, trade-moves, measure-moves, usage-moves, transfer-in-at, transfer-out-at, rate-at}
-use Rattle.ledger.proofs.ClosedAccounts.{openOwed, openDays, chosen}
-use Rattle.ledger.proofs.OneStep.{Taken, size-stored, account-stored, ranged-stored, no-transfers, keeps-rate, stores}
+use Rattle.ledger.proofs.Admitted.{is-begun, a-fits, b-fits, transfer-fits}
+use Rattle.ledger.proofs.ClosedAccounts.{openOwed, openDays, grows}
+use Rattle.ledger.proofs.OneStep.{Sound, Taken, gainAt, size-stored, account-stored, ranged-stored, same-debt, same-days, same-rate, stores}
 
 not-chosen : {A : Type 0} (t : Bool) (x y : A) → t ≡ false → cond t x y ≡ y
 not-chosen true x y h = absurd (true≢false h)
@@ -48,13 +46,9 @@ either-way false x = refl
 
 -- ---- TERMS leaves what accounts hold
 
-rework-keeps : {B : Type 0} (f : Account → B) (t : Terms) (a : Account) → ((c : Account) → c ≡ withCapacity a (capacityOf t (a .step .k)) → f c ≡ f a) → f (reworked t a) ≡ f a
+rework-keeps : (f : Account → ℤ) (t : Terms) (a : Account) → ((c : Capacity) (a : Account) → f (withCapacity a c) ≡ f a) → f (reworked t a) ≡ f a
 unfolding reworked
-rework-keeps f t a g = go (a .opened)
-  where
-    go : (o : Bool) → f (cond o (withCapacity a (capacityOf t (a .step .k))) a) ≡ f a
-    go true = g (withCapacity a (capacityOf t (a .step .k))) refl
-    go false = refl
+rework-keeps f t a g = either (λ (c : Account). f c ≡ f a) (a .opened) (withCapacity a (capacityOf t (a .step .k))) a (λ _. g (capacityOf t (a .step .k)) a) (λ _. refl)
 
 module _ (l : Ledger) (e : Entry) where
   nobody-reworked : reworked (termsOf e) nobody ≡ nobody
@@ -78,17 +72,13 @@ module _ (l : Ledger) (e : Entry) where
   unfolding receiver withBank openBank
   receiver-bank o =
       let a = accountAt l (e .b) in
-      chosen (a .opened) (more (a .bank) (record { 0 = e .w1 }) .0) (pos 0) o
-      ∙ more-value (a .bank) (record { 0 = e .w1 })
-      ∙ ap (λ (z : ℤ). z +ℤ pos (e .w1)) (sym (chosen (a .opened) (a .bank .0) (pos 0) o))
+      grows (a .opened) (more (a .bank) (record { 0 = e .w1 }) .0) (a .bank .0) (pos (e .w1)) o (more-value (a .bank) (record { 0 = e .w1 }))
 
   giver-bank : accountAt l (e .a) .opened ≡ true → openBank (giver l e) ≡ openBank (accountAt l (e .a)) +ℤ negℤ (pos (e .w1))
   unfolding giver withBank openBank
   giver-bank o =
       let a = accountAt l (e .a) in
-      chosen (a .opened) (less (a .bank) (record { 0 = e .w1 }) .0) (pos 0) o
-      ∙ less-value (a .bank) (record { 0 = e .w1 })
-      ∙ ap (λ (z : ℤ). z +ℤ negℤ (pos (e .w1))) (sym (chosen (a .opened) (a .bank .0) (pos 0) o))
+      grows (a .opened) (less (a .bank) (record { 0 = e .w1 }) .0) (a .bank .0) (negℤ (pos (e .w1))) o (less-value (a .bank) (record { 0 = e .w1 }))
 
   receiver-debt : openOwed (receiver l e) ≡ openOwed (accountAt l (e .b))
   unfolding receiver withBank
@@ -106,122 +96,126 @@ module _ (l : Ledger) (e : Entry) where
   unfolding giver withBank
   giver-days = refl
 
-module _ (l : Ledger) (b : List ℕ) (n : length (l .accounts) ≡ 16) (h : admission l (entryOf b) ≡ 0) where
-  abbrev e : Entry
-  e = entryOf b
+-- ---- what each kind does, once it is accepted
 
+module _ (l : Ledger) (e : Entry) (s : Sound l) (h : admission l e ≡ 0) where
   abbrev old : Account
-  old = accountAt l (entryOf b .a)
+  old = accountAt l (e .a)
 
-  pub takes-terms : e .kind ≡ 1 → verdict (termsChecks l e) ≡ 0 → Taken l b (termsNext l e)
-  unfolding bankOf owedOf daysOf
-  takes-terms k o =
+  -- every kind but TERMS finds the ledger begun
+  begun-before : (n : ℕ) → e .kind ≡ n → (n ≡ 1 → ⊥) → l .begun ≡ true
+  begun-before n is d = is-begun l e h (λ z. d (sym is ∙ z))
+
+  pub takes-terms : e .kind ≡ 1 → verdict (termsChecks l e) ≡ 0 → Taken l e (plain 0) (termsNext l e)
+  unfolding bankOf
+  takes-terms is o =
       record {
-        sized = unfold termsNext in (length-map (l .accounts) (reworked (termsOf e)) ∙ n);
-        ranged = unfold termsChecks in not-false (inRange (termsNext l e)) (clear _ refl o 2);
-        rated = λ r q. λ _. next-rate l e ∙ sym (rate-at 0 r b (plain 0) 1 k);
-        banks = λ r q i. ap openBank (account-reworked l e i) ∙ rework-keeps openBank (termsOf e) (accountAt l i) (λ c w. ap openBank w ∙ (unfold withCapacity openBank in refl)) ∙ sym (ap (λ (z : ℤ). openBank (accountAt l i) +ℤ z) (terms-move i r b k) ∙ +ℤ-idr (openBank (accountAt l i)));
-        debts = λ i. ap openOwed (account-reworked l e i) ∙ rework-keeps openOwed (termsOf e) (accountAt l i) (λ c w. ap openOwed w ∙ (unfold withCapacity in refl));
-        days = λ i. ap openDays (account-reworked l e i) ∙ rework-keeps openDays (termsOf e) (accountAt l i) (λ c w. ap openDays w ∙ (unfold withCapacity in refl));
-        balanced = no-transfers b 1 k refl;
+        sound =
+            record {
+              sized = unfold termsNext in (length-map (l .accounts) (reworked (termsOf e)) ∙ s .sized);
+              ranged = unfold termsChecks in not-false (inRange (termsNext l e)) (clear _ refl o 2);
+            };
+        banks = λ i. reworks openBank (λ c a. unfold withCapacity openBank in refl) i ∙ sym (ap (λ (m : ℕ). openBank (accountAt l i) +ℤ gainAt m l e (plain 0) i) is ∙ +ℤ-idr (openBank (accountAt l i)));
+        debts = λ i. reworks openOwed (λ c a. unfold withCapacity in refl) i ∙ same-debt e 1 is refl i (openOwed (accountAt l i));
+        days = λ i. reworks openDays (λ c a. unfold withCapacity in refl) i ∙ same-days e 1 is refl i (openDays (accountAt l i));
+        retainage = next-rate l e ∙ sym (ap (λ (m : ℕ). cond (eqb m 1) (e .w4) (l .terms .retainage)) is);
+        started = λ z. absurd (eqb-false (e .kind) 1 z is);
+        parties = λ z. absurd (omega (arith, z, is));
       }
-
-  pub takes-enrol : e .kind ≡ 2 → verdict (enrolChecks (l .terms) old e) ≡ 0 → Taken l b (withAccount l (e .a) (enrolled (l .terms) e))
-  unfolding enrolChecks enrolled newAccount openBank
-  takes-enrol k o =
-      let shut : old .opened ≡ false = clear _ refl o 1 in
-      stores l b n 2 k refl refl (enrolled (l .terms) e) (λ _. pos (e .w2)) (a-fits l e h (omega arith) (omega arith)) (is-ranged l e h)
-      (not-false (accountInRange (enrolled (l .terms) e)) (clear _ refl o 4))
-      (sym (not-chosen (old .opened) (old .owed .0) (pos 0) shut))
-      (sym (not-chosen (old .opened) (old .«violation_days») 0 shut))
-      (λ r q. amount-value (record { 0 = e .w2 }) ∙ sym (ap (λ (z : ℤ). z +ℤ pos (e .w2)) (not-chosen (old .opened) (old .bank .0) (pos 0) shut) ∙ +ℤ-idl (pos (e .w2))))
-      (λ r i. enrol-moves i r b k)
-
-  pub takes-deliver : e .kind ≡ 3 → verdict (deliverChecks (l .terms .retainage) old e) ≡ 0 → Taken l b (withAccount l (e .a) (afterDelivery (l .terms .retainage) old e))
-  unfolding deliverChecks afterDelivery delivered withMarks withMonth withBank openBank
-  takes-deliver k o =
-      let open′ : old .opened ≡ true = not-false (old .opened) (clear _ refl o 0) in
-      stores l b n 3 k refl refl (afterDelivery (l .terms .retainage) old e) (λ r. amountUnder r e .0) (a-fits l e h (omega arith) (omega arith)) (is-ranged l e h)
-      (not-false (accountInRange (afterDelivery (l .terms .retainage) old e)) (clear _ refl o 2))
-      refl
-      refl
-      (λ r q.
-      chosen (old .opened) (sum (old .bank) (amountUnder (l .terms .retainage) e) .0) (pos 0) open′
-      ∙ sum-value (old .bank) (amountUnder (l .terms .retainage) e)
-      ∙ ap (λ (z : ℕ). old .bank .0 +ℤ amountUnder z e .0) (q (is-begun l e h (λ z. omega (arith, z, k))))
-      ∙ ap (λ (z : ℤ). z +ℤ amountUnder r e .0) (sym (chosen (old .opened) (old .bank .0) (pos 0) open′)))
-      (λ r i. deliver-moves i r b k)
-
-  pub takes-trade : e .kind ≡ 5 → verdict (tradeChecks old e) ≡ 0 → Taken l b (withAccount l (e .a) (afterTrade old e))
-  unfolding tradeChecks afterTrade traded withMonth withBank openBank
-  takes-trade k o =
-      let open′ : old .opened ≡ true = not-false (old .opened) (clear _ refl o 0) in
-      stores l b n 5 k refl refl (afterTrade old e) (λ _. cond (companySells e) (pos (e .w1)) (negℤ (pos (e .w1)))) (a-fits l e h (omega arith) (omega arith)) (is-ranged l e h)
-      (not-false (accountInRange (afterTrade old e)) (clear _ refl o 2))
-      refl
-      refl
-      (λ r q.
-      chosen (old .opened) (cond (companySells e) (more (old .bank) (record { 0 = e .w1 })) (less (old .bank) (record { 0 = e .w1 })) .0) (pos 0) open′
-      ∙ by-side (companySells e)
-      ∙ ap (λ (z : ℤ). z +ℤ cond (companySells e) (pos (e .w1)) (negℤ (pos (e .w1)))) (sym (chosen (old .opened) (old .bank .0) (pos 0) open′)))
-      (λ r i. trade-moves i r b k)
     where
-      by-side : (s : Bool) → cond s (more (old .bank) (record { 0 = e .w1 })) (less (old .bank) (record { 0 = e .w1 })) .0 ≡ old .bank .0 +ℤ cond s (pos (e .w1)) (negℤ (pos (e .w1)))
+      reworks : (f : Account → ℤ) → ((c : Capacity) (a : Account) → f (withCapacity a c) ≡ f a) → (i : ℕ) → f (accountAt (termsNext l e) i) ≡ f (accountAt l i)
+      reworks f g i = ap f (account-reworked l e i) ∙ rework-keeps f (termsOf e) (accountAt l i) g
+
+  pub takes-enrol : e .kind ≡ 2 → verdict (enrolChecks (l .terms) old e) ≡ 0 → Taken l e (plain 0) (withAccount l (e .a) (enrolled (l .terms) e))
+  unfolding enrolChecks enrolled newAccount openBank
+  takes-enrol is o =
+      let shut : old .opened ≡ false = clear _ refl o 1 in
+      stores e 2 is refl l (enrolled (l .terms) e) (pos (e .w2)) refl refl s (begun-before 2 is (λ z. omega (arith, z))) (a-fits l e h (omega arith) (omega arith))
+      (not-false (accountInRange (enrolled (l .terms) e)) (clear _ refl o 4))
+      (amount-value (record { 0 = e .w2 }) ∙ sym (ap (λ (z : ℤ). z +ℤ pos (e .w2)) (not-chosen (old .opened) (old .bank .0) (pos 0) shut) ∙ +ℤ-idl (pos (e .w2))))
+      (sym (not-chosen (old .opened) (old .owed .0) (pos 0) shut))
+      (sym (not-chosen (old .opened) (pos (old .«violation_days»)) (pos 0) shut))
+      (λ i. refl)
+
+  pub takes-deliver : e .kind ≡ 3 → verdict (deliverChecks (l .terms .retainage) old e) ≡ 0 → Taken l e (plain 0) (withAccount l (e .a) (afterDelivery (l .terms .retainage) old e))
+  unfolding deliverChecks afterDelivery delivered withMarks withMonth withBank openBank
+  takes-deliver is o =
+      let amount = amountUnder (l .terms .retainage) e in
+      stores e 3 is refl l (afterDelivery (l .terms .retainage) old e) (amount .0) refl refl s (begun-before 3 is (λ z. omega (arith, z))) (a-fits l e h (omega arith) (omega arith))
+      (not-false (accountInRange (afterDelivery (l .terms .retainage) old e)) (clear _ refl o 2))
+      (grows (old .opened) (sum (old .bank) amount .0) (old .bank .0) (amount .0) (not-false (old .opened) (clear _ refl o 0)) (sum-value (old .bank) amount))
+      refl
+      refl
+      (λ i. refl)
+
+  pub takes-trade : e .kind ≡ 5 → verdict (tradeChecks old e) ≡ 0 → Taken l e (plain 0) (withAccount l (e .a) (afterTrade old e))
+  unfolding tradeChecks afterTrade traded withMonth withBank openBank
+  takes-trade is o =
+      stores e 5 is refl l (afterTrade old e) (cond (companySells e) (pos (e .w1)) (negℤ (pos (e .w1)))) refl refl s (begun-before 5 is (λ z. omega (arith, z))) (a-fits l e h (omega arith) (omega arith))
+      (not-false (accountInRange (afterTrade old e)) (clear _ refl o 2))
+      (grows (old .opened) (cond (companySells e) (more (old .bank) (record { 0 = e .w1 })) (less (old .bank) (record { 0 = e .w1 })) .0) (old .bank .0)
+      (cond (companySells e) (pos (e .w1)) (negℤ (pos (e .w1)))) (not-false (old .opened) (clear _ refl o 0)) (by-side (companySells e)))
+      refl
+      refl
+      (λ i. refl)
+    where
+      by-side : (t : Bool) → cond t (more (old .bank) (record { 0 = e .w1 })) (less (old .bank) (record { 0 = e .w1 })) .0 ≡ old .bank .0 +ℤ cond t (pos (e .w1)) (negℤ (pos (e .w1)))
       by-side true = more-value (old .bank) (record { 0 = e .w1 })
       by-side false = less-value (old .bank) (record { 0 = e .w1 })
 
-  pub takes-measure : e .kind ≡ 6 → verdict (measureChecks old e) ≡ 0 → Taken l b (withAccount l (e .a) (afterMeasure old e))
+  pub takes-measure : e .kind ≡ 6 → verdict (measureChecks old e) ≡ 0 → Taken l e (plain 0) (withAccount l (e .a) (afterMeasure old e))
   unfolding measureChecks afterMeasure remeasured withMarks withMeasure openBank
-  takes-measure k o =
-      stores l b n 6 k refl refl (afterMeasure old e) (λ _. pos 0) (a-fits l e h (omega arith) (omega arith)) (is-ranged l e h)
+  takes-measure is o =
+      stores e 6 is refl l (afterMeasure old e) (pos 0) refl refl s (begun-before 6 is (λ z. omega (arith, z))) (a-fits l e h (omega arith) (omega arith))
       (not-false (accountInRange (afterMeasure old e)) (clear _ refl o 3))
+      (sym (+ℤ-idr (openBank old)))
       refl
       refl
-      (λ r q. sym (+ℤ-idr (openBank old)))
-      (λ r i. measure-moves i r b k ∙ sym (either-way (eqb (e .a) i) (pos 0)))
+      (λ i. sym (either-way (eqb (e .a) i) (pos 0)))
 
-  pub takes-usage : e .kind ≡ 7 → verdict (usageChecks old e) ≡ 0 → Taken l b (withAccount l (e .a) (afterUsage old e))
+  pub takes-usage : e .kind ≡ 7 → verdict (usageChecks old e) ≡ 0 → Taken l e (plain 0) (withAccount l (e .a) (afterUsage old e))
   unfolding usageChecks afterUsage metered withMarks withMonth openBank
-  takes-usage k o =
-      stores l b n 7 k refl refl (afterUsage old e) (λ _. pos 0) (a-fits l e h (omega arith) (omega arith)) (is-ranged l e h)
+  takes-usage is o =
+      stores e 7 is refl l (afterUsage old e) (pos 0) refl refl s (begun-before 7 is (λ z. omega (arith, z))) (a-fits l e h (omega arith) (omega arith))
       (not-false (accountInRange (afterUsage old e)) (clear _ refl o 2))
+      (sym (+ℤ-idr (openBank old)))
       refl
       refl
-      (λ r q. sym (+ℤ-idr (openBank old)))
-      (λ r i. usage-moves i r b k ∙ sym (either-way (eqb (e .a) i) (pos 0)))
+      (λ i. sym (either-way (eqb (e .a) i) (pos 0)))
 
   -- ---- TRANSFER stores two accounts
 
   abbrev other : Account
-  other = accountAt l (entryOf b .b)
+  other = accountAt l (e .b)
 
   abbrev half : Ledger
-  half = withAccount l (entryOf b .a) (giver l (entryOf b))
+  half = withAccount l (e .a) (giver l e)
 
-  pub takes-transfer : e .kind ≡ 4 → verdict (transferChecks l e) ≡ 0 → Taken l b (withAccount half (e .b) (receiver l e))
-  unfolding transferChecks bankOf owedOf daysOf
-  takes-transfer k o =
+  pub takes-transfer : e .kind ≡ 4 → verdict (transferChecks l e) ≡ 0 → Taken l e (plain 0) (withAccount half (e .b) (receiver l e))
+  unfolding transferChecks bankOf
+  takes-transfer is o =
       let ha : e .a < 16 = a-fits l e h (omega arith) (omega arith) in
-      let hb : e .b < 16 = b-fits l e h k in
+      let hb : e .b < 16 = b-fits l e h is in
       let both : old .opened && other .opened ≡ true = not-false (old .opened && other .opened) (clear _ refl o 0) in
       let fit : accountInRange (giver l e) && accountInRange (receiver l e) ≡ true = not-false (accountInRange (giver l e) && accountInRange (receiver l e)) (clear _ refl o 2) in
-      let n′ : length (half .accounts) ≡ 16 = size-stored l (e .a) (giver l e) n ha in
-      let stays : (i : ℕ) → accountAt (withAccount half (e .b) (receiver l e)) i ≡ cond (eqb (e .b) i) (receiver l e) (cond (eqb (e .a) i) (giver l e) (accountAt l i)) =
-      λ i. account-stored half (e .b) (receiver l e) n′ hb i ∙ ap (λ (c : Account). cond (eqb (e .b) i) (receiver l e) c) (account-stored l (e .a) (giver l e) n ha i) in
+      let n′ : length (half .accounts) ≡ 16 = size-stored l (e .a) (giver l e) (s .sized) ha in
+      let after′ : (i : ℕ) → accountAt (withAccount half (e .b) (receiver l e)) i ≡ cond (eqb (e .b) i) (receiver l e) (cond (eqb (e .a) i) (giver l e) (accountAt l i)) =
+      λ i. account-stored half (e .b) (receiver l e) n′ hb i ∙ ap (λ (c : Account). cond (eqb (e .b) i) (receiver l e) c) (account-stored l (e .a) (giver l e) (s .sized) ha i) in
       record {
-        sized = size-stored half (e .b) (receiver l e) n′ hb;
-        ranged = ranged-stored half (e .b) (receiver l e) n′ hb (ranged-stored l (e .a) (giver l e) n ha (is-ranged l e h) (and-left (accountInRange (giver l e)) (accountInRange (receiver l e)) fit)) (and-right (accountInRange (giver l e)) (accountInRange (receiver l e)) fit);
-        rated = λ r q. keeps-rate l b 4 k refl r (withAccount half (e .b) (receiver l e)) (unfold withAccount in refl) (unfold withAccount in refl) q;
-        banks = λ r q i.
-            ap openBank (stays i)
-            ∙ moves-both i (transfer-fits l e h k .1) (and-left (old .opened) (other .opened) both) (and-right (old .opened) (other .opened) both) (eqb (e .b) i) (eqb (e .a) i) refl refl
-            ∙ ap (λ (z : ℤ). openBank (accountAt l i) +ℤ z) (sym (transfer-moves i r b k));
-        debts = λ i. ap openOwed (stays i) ∙ keeps-both openOwed i (receiver-debt l e) (giver-debt l e) (eqb (e .b) i) (eqb (e .a) i) refl refl;
-        days = λ i. ap openDays (stays i) ∙ keeps-both openDays i (receiver-days l e) (giver-days l e) (eqb (e .b) i) (eqb (e .a) i) refl refl;
-        balanced =
-            over-cong 16 (λ i. transferIn i (line b (plain 0))) (λ i. cond (eqb (e .b) i) (pos (e .w1)) (pos 0)) (λ i. transfer-in-at i 0 b (plain 0) 4 k)
-            ∙ only-one (e .b) (pos (e .w1)) hb
-            ∙ sym (over-cong 16 (λ i. transferOut i (line b (plain 0))) (λ i. cond (eqb (e .a) i) (pos (e .w1)) (pos 0)) (λ i. transfer-out-at i 0 b (plain 0) 4 k) ∙ only-one (e .a) (pos (e .w1)) ha);
+        sound =
+            record {
+              sized = size-stored half (e .b) (receiver l e) n′ hb;
+              ranged = ranged-stored half (e .b) (receiver l e) n′ hb (ranged-stored l (e .a) (giver l e) (s .sized) ha (s .ranged) (and-left (accountInRange (giver l e)) (accountInRange (receiver l e)) fit)) (and-right (accountInRange (giver l e)) (accountInRange (receiver l e)) fit);
+            };
+        banks = λ i.
+            ap openBank (after′ i)
+            ∙ moves-both i (transfer-fits l e h is .1) (and-left (old .opened) (other .opened) both) (and-right (old .opened) (other .opened) both) (eqb (e .b) i) (eqb (e .a) i) refl refl
+            ∙ ap (λ (z : ℤ). openBank (accountAt l i) +ℤ z) (sym (ap (λ (m : ℕ). gainAt m l e (plain 0) i) is));
+        debts = λ i. ap openOwed (after′ i) ∙ keeps-both openOwed i (receiver-debt l e) (giver-debt l e) (eqb (e .b) i) (eqb (e .a) i) refl refl ∙ same-debt e 4 is refl i (openOwed (accountAt l i));
+        days = λ i. ap openDays (after′ i) ∙ keeps-both openDays i (receiver-days l e) (giver-days l e) (eqb (e .b) i) (eqb (e .a) i) refl refl ∙ same-days e 4 is refl i (openDays (accountAt l i));
+        retainage = same-rate e 4 is refl l (withAccount half (e .b) (receiver l e)) refl (unfold withAccount in refl);
+        started = λ _. begun-before 4 is (λ z. omega (arith, z));
+        parties = λ _. (ha, hb);
       }
     where
       moves-both : (i : ℕ) → (e .a ≡ e .b → ⊥) → old .opened ≡ true → other .opened ≡ true → (t u : Bool) → eqb (e .b) i ≡ t → eqb (e .a) i ≡ u
@@ -233,7 +227,7 @@ module _ (l : Ledger) (b : List ℕ) (n : length (l .accounts) ≡ 16) (h : admi
           rw (← eqb-true (e .a) i w) (giver-bank l e p ∙ ap (λ (z : ℤ). openBank old +ℤ z) (sym (+ℤ-idl (negℤ (pos (e .w1))))))
       moves-both i d p q false false v w = sym (+ℤ-idr (openBank (accountAt l i)))
 
-      keeps-both : {B : Type 0} (f : Account → B) (i : ℕ) → f (receiver l e) ≡ f other → f (giver l e) ≡ f old → (t u : Bool) → eqb (e .b) i ≡ t → eqb (e .a) i ≡ u
+      keeps-both : (f : Account → ℤ) (i : ℕ) → f (receiver l e) ≡ f other → f (giver l e) ≡ f old → (t u : Bool) → eqb (e .b) i ≡ t → eqb (e .a) i ≡ u
           → f (cond t (receiver l e) (cond u (giver l e) (accountAt l i))) ≡ f (accountAt l i)
       keeps-both f i p q true u v w = rw (← eqb-true (e .b) i v) p
       keeps-both f i p q false true v w = rw (← eqb-true (e .a) i w) q

@@ -13,5 +13,5 @@ pub mod Usage
 pub mod Closing
 pub mod Posting
 pub mod Panel
-pub mod History
+pub mod Running
 pub mod MarkedCases

@@ -7,7 +7,8 @@ use lib.ListN.{getD}
 use Rattle.ledger.specs.Answers.{quiet}
 use Rattle.ledger.specs.State.{fresh, accountAt}
 use Rattle.ledger.specs.Posting.{posted}
-use Rattle.ledger.specs.History.{run, bankOf}
+use Rattle.ledger.specs.Panel.{bankOf}
+use Rattle.ledger.specs.Running.{run}
 use Rattle.ledger.specs.declared.answers.Report.{Report}
 
 -- ---- postings of April 2026, in bytes

@@ -27,9 +27,8 @@ ghost use mathlib.Core.Path.{_≡_};
 ghost use Rattle.ledger.specs.Entries.{formNumber};
 ghost use Rattle.ledger.specs.State.{fresh};
 ghost use Rattle.ledger.specs.Posting.{posted};
-ghost use Rattle.ledger.specs.Panel.{panelOf};
+ghost use Rattle.ledger.specs.Panel.{bankOf, panelOf};
 ghost use Rattle.ledger.specs.MarkedCases.{MarkedCases};
-ghost use Rattle.ledger.specs.History.{bankOf, BanksAddUp, PanelAddsUp, DebtsAddUp, DaysAddUp, StrikingChangesNothing};
 use crate::answers::refused;
 use crate::entries::decode;
 use crate::panels::open_bank;
@@ -123,7 +122,7 @@ pub fn post(mut ledger: Ledger, entry: &[u8]) -> Posted
 }
 
 // For a caller who keeps one ledger in its own storage: what `post` returns takes the ledger's place there, so that no old copy is left to post to.
-// Both have one definition, `posted`; so `every_history` speaks of a list of these too.
+// Both have one definition, `posted`; so `history::every_history` speaks of a list of these too.
 pub fn post_in(ledger: &mut Ledger, entry: &[u8]) -> Answer
     ensures answer { λ r. ⌜ r ≡ posted (now (ledger .entry)) (now (entry .entry)) .answer ⌝ }
     ensures stored { λ _. ⌜ now (ledger .exit) ≡ posted (now (ledger .entry)) (now (entry .entry)) .ledger ⌝ }
@@ -157,15 +156,6 @@ pub fn bank(ledger: Ledger, account: usize) -> Units
     let a = ledger.accounts[account];
     open_bank(a)
 }
-
-// Demand 3, for every list of postings to a fresh ledger: specs/History.antt has each claim in words.
-pub fn every_history()
-    ensures banks { λ r. ⌜ BanksAddUp ⌝ }
-    ensures panel { λ r. ⌜ PanelAddsUp ⌝ }
-    ensures debts { λ r. ⌜ DebtsAddUp ⌝ }
-    ensures violation_days { λ r. ⌜ DaysAddUp ⌝ }
-    ensures struck { λ r. ⌜ StrikingChangesNothing ⌝ }
-{}
 
 // Document 01's marked cases hold of postings to a fresh ledger, as one group.
 pub fn marked_cases()

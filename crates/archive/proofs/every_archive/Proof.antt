@@ -1,6 +1,6 @@
 use mathlib.Core.Path.{ap}
 use Rattle.ledger.specs.declared.panels.Panel.{Panel}
-use Rattle.ledger.proofs.Histories.{banks-add-up, panel-adds-up, debts-add-up, days-add-up, striking-changes-nothing}
+use Rattle.history.proofs.Histories.{banks-add-up, panel-adds-up, debts-add-up, days-add-up, striking-changes-nothing}
 use Rattle.archive.specs.Replay.{heldBy, replayed, figuresOf, BanksAddUp, FigureAddsUp, DebtsAddUp, DaysAddUp, StrikingChangesNothing}
 use Rattle.archive.proofs.every_archive.Statement.{statement}
 use Rattle.archive.proofs.every_archive.Tie as tie

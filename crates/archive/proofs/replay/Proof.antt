@@ -3,15 +3,15 @@ use native.Mathlib.Omega.{arith}
 use Prim.Native.Nat.{ℕ}
 use mathlib.Core.List.{List}
 use mathlib.Core.Path.{_≡_, sym, ap, _∙_}
-use Rattle.ledger.proofs.Replaying.{run-none, count-none}
-use Rattle.ledger.specs.History.{history, run, countOf}
+use Rattle.ledger.specs.Running.{history, run}
 use Rattle.ledger.specs.State.{fresh}
-use Rattle.archive.specs.Replay.{asAccepted, asRefused, replayed}
+use Rattle.archive.specs.Replay.{countOf, asAccepted, asRefused, replayed}
 use Rattle.archive.specs.Reading.{checked}
 use Rattle.archive.specs.declared.entries.Checked.{Checked}
 use Rattle.archive.proofs.Acceptance.{checked-tells, checked-nowhere}
 use Rattle.archive.proofs.HeldEntries.{held-none, held-all, same-replay}
 use Rattle.archive.proofs.Headers.{Measured, measured}
+use Rattle.archive.proofs.Replays.{count-none}
 use Rattle.archive.proofs.replay.Statement.{statement}
 use Rattle.archive.proofs.replay.Tie as tie
 
@@ -30,7 +30,7 @@ returns c =
     same-replay _ (replayed a) (ap (λ (x : Checked). x .number) check) (ap (λ (x : Checked). x .index) check)
     (sym (count-none asAccepted fresh) ∙ ap (λ (es : List (List ℕ)). countOf asAccepted (history fresh es)) none)
     (sym (count-none asRefused fresh) ∙ ap (λ (es : List (List ℕ)). countOf asRefused (history fresh es)) none)
-    (c .fresh .ensures ∙ sym (run-none fresh) ∙ ap (run fresh) none)
+    (c .fresh .ensures ∙ ap (run fresh) none)
 
 section-count-requires : tie.Need-section-count-requires
 section-count-requires c κs = let m = sizes c in omega arith

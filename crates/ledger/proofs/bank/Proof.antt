@@ -4,9 +4,8 @@ use Prim.Native.Nat.{_≤_}
 use mathlib.Core.Path.{_≡_}
 use lib.ListN.{length, List·getD-eq-default}
 use Rattle.ledger.proofs.Lists.{length-mapped}
-use Rattle.ledger.specs.Panel.{openBank}
+use Rattle.ledger.specs.Panel.{bankOf, openBank}
 use Rattle.ledger.specs.State.{accountAt, noMarks, noTotals, nobody}
-use Rattle.ledger.specs.History.{bankOf}
 use Rattle.tariff.proofs.Laws.{nothing-value}
 use Rattle.ledger.proofs.bank.Statement.{statement}
 use Rattle.ledger.proofs.bank.Tie as tie

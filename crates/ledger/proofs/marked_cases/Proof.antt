@@ -24,14 +24,13 @@ use Rattle.ledger.specs.Measure.{measureMark, remeasured, afterMeasure, 
 use Rattle.ledger.specs.Usage.{withUsage, usageMark, metered, afterUsage, usageChecks, usage}
 use Rattle.ledger.specs.Closing.{limitOf, violationsOf, cashAt, withCash, dayMarks, dayEnd, dayClosed, billAt, nextCapacity, forfeitAt, monthMarks, monthEnd, monthClosed, closedDay, closedMonth, notOpen, closedAccount, accountClosed, reportOf, wrongClosing, complete, staysInRange, closingChecks, closed, postClosing}
 use Rattle.ledger.specs.Posting.{standingChecks, admission, concernsSeveral, postSeveral, changeOf, stored, postKind, postEntry, posted}
-use Rattle.ledger.specs.Panel.{openBank}
-use Rattle.ledger.specs.History.{run, bankOf}
+use Rattle.ledger.specs.Panel.{bankOf, openBank}
 use Rattle.ledger.specs.MarkedCases.{MarkedCases}
 use Rattle.ledger.proofs.marked_cases.Statement.{statement}
 use Rattle.ledger.proofs.marked_cases.Tie as tie
 
 all-nine : MarkedCases
-unfolding nothing amountOf sum more less gap opposite positivePart inward outward above below within together percent noMoney charged credited added withinMills january february march april june august november december sameMonth gasMonth winter minimum maximum mmbq withdrawalMaximum withdrawalMinimum divides leap lengths monthLength real sameDate isOn firstOfGasYear lastOfMonth lastDate dayAfter total dayNumber weekday businessDay measurementDay onMeasurementDay termsInRange mddqOf bcqOf capacityOf staysOnFbs openingTooHigh retained daysOfInjection breaksV1 shareOf breaksV2 aboveMaximum belowMinimum stepOf firstStep isOver isUnder crosses measured settledStep falls breaksV3 withdrawalLimit breaksV4 breaksV5 breaksV6 breaksV7 breaksV8 cashOf endsExcuse excessOver carryOf forfeitOf maskOf pricesInRange cashInCharge cashOutCredit atInventoryCost billOf verdict byteAt wordAt entryOf usesA usesB largestFlag wordsUsed termsOf pricesOf processOnly wishes companySells accountTooHigh unusedSet someUnits wordsInRange wrongTransfer entryChecks entryNumber noTotals noMarks nobody fresh accountAt withBank withMonth withMarks withMeasure withCapacity withAccount totalsInRange stepInRange accountInRange everyAccount inRange quiet plain refused settle reworked termsNext termsChecks postTerms newAccount enrolled enrolChecks enrolment withNet deliveryMarks delivered amountUnder afterDelivery deliverChecks delivery giver receiver transferChecks postTransfer withTrade traded afterTrade pastLimit tradeChecks trade measureMark remeasured afterMeasure measureChecks measurement withUsage usageMark metered afterUsage usageChecks usage limitOf violationsOf cashAt withCash dayMarks dayEnd dayClosed billAt nextCapacity forfeitAt monthMarks monthEnd monthClosed closedDay closedMonth notOpen closedAccount accountClosed reportOf wrongClosing complete staysInRange closingChecks closed postClosing standingChecks admission concernsSeveral postSeveral changeOf stored postKind postEntry posted openBank run bankOf
+unfolding nothing amountOf sum more less gap opposite positivePart inward outward above below within together percent noMoney charged credited added withinMills january february march april june august november december sameMonth gasMonth winter minimum maximum mmbq withdrawalMaximum withdrawalMinimum divides leap lengths monthLength real sameDate isOn firstOfGasYear lastOfMonth lastDate dayAfter total dayNumber weekday businessDay measurementDay onMeasurementDay termsInRange mddqOf bcqOf capacityOf staysOnFbs openingTooHigh retained daysOfInjection breaksV1 shareOf breaksV2 aboveMaximum belowMinimum stepOf firstStep isOver isUnder crosses measured settledStep falls breaksV3 withdrawalLimit breaksV4 breaksV5 breaksV6 breaksV7 breaksV8 cashOf endsExcuse excessOver carryOf forfeitOf maskOf pricesInRange cashInCharge cashOutCredit atInventoryCost billOf verdict byteAt wordAt entryOf usesA usesB largestFlag wordsUsed termsOf pricesOf processOnly wishes companySells accountTooHigh unusedSet someUnits wordsInRange wrongTransfer entryChecks entryNumber noTotals noMarks nobody fresh accountAt withBank withMonth withMarks withMeasure withCapacity withAccount totalsInRange stepInRange accountInRange everyAccount inRange quiet plain refused settle reworked termsNext termsChecks postTerms newAccount enrolled enrolChecks enrolment withNet deliveryMarks delivered amountUnder afterDelivery deliverChecks delivery giver receiver transferChecks postTransfer withTrade traded afterTrade pastLimit tradeChecks trade measureMark remeasured afterMeasure measureChecks measurement withUsage usageMark metered afterUsage usageChecks usage limitOf violationsOf cashAt withCash dayMarks dayEnd dayClosed billAt nextCapacity forfeitAt monthMarks monthEnd monthClosed closedDay closedMonth notOpen closedAccount accountClosed reportOf wrongClosing complete staysInRange closingChecks closed postClosing standingChecks admission concernsSeveral postSeveral changeOf stored postKind postEntry posted openBank bankOf
 all-nine =
     record {
       header = (refl, refl, refl);

@@ -4,9 +4,9 @@ use Prim.Native.Nat.{_+_, _-_, _/_, _≤_}
 use mathlib.Core.Path.{_≡_, refl, sym, _∙_}
 use lib.ListN.{length}
 use Rattle.ledger.specs.declared.answers.Posted.{Posted}
-use Rattle.ledger.specs.History.{history, run, countOf}
+use Rattle.ledger.specs.Running.{history, run}
 use Rattle.ledger.specs.State.{fresh}
-use Rattle.archive.specs.Replay.{asAccepted, asRefused}
+use Rattle.archive.specs.Replay.{countOf, asAccepted, asRefused}
 use Rattle.archive.specs.Entries.{entriesOf}
 use Rattle.archive.proofs.Replays.{accepting, as-accepted, as-refused, left, bytes, run-turn, count-turn, run-over, count-over}
 use Rattle.archive.proofs.replaying.post_all.Statement.{statement}
