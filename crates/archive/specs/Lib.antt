@@ -6,3 +6,4 @@ pub mod Reading
 pub mod Replay
 pub mod YearSheet
 pub mod RoundTrips
+pub mod WorkedCases

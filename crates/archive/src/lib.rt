@@ -21,6 +21,7 @@ ghost use Rattle.archive.specs.Reading.{checked, placeOf, sectionAt};
 ghost use Rattle.archive.specs.Replay.{replayed, figuresOf, BanksAddUp, FigureAddsUp, DebtsAddUp, DaysAddUp, StrikingChangesNothing};
 ghost use Rattle.archive.specs.YearSheet.{sheetOf};
 ghost use Rattle.archive.specs.RoundTrips.{ReadsBack, WritesBack};
+ghost use Rattle.archive.specs.WorkedCases.{WorkedCases};
 use crate::reading::check_sections;
 use crate::reading::nowhere;
 use crate::reading::right_directory;
@@ -165,4 +166,9 @@ pub fn every_archive()
     ensures debts { λ r. ⌜ DebtsAddUp ⌝ }
     ensures violation_days { λ r. ⌜ DaysAddUp ⌝ }
     ensures struck { λ r. ⌜ StrikingChangesNothing ⌝ }
+{}
+
+// One list written, read and figured, and one of each number from 8 to 13.
+pub fn worked_cases()
+    ensures { λ r. ⌜ WorkedCases ⌝ }
 {}
