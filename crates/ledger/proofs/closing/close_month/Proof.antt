@@ -29,15 +29,29 @@ month-closed : (d : Date) (t : Terms) (p : Prices) (a day account : Account) (ma
 unfolding closedMonth monthClosed dayClosed billAt forfeitAt
 month-closed d t p a day account mask cash capacity forfeit bill m c x k b f z = cc
 
+violations-requires : tie.Need-violations-requires
+violations-requires c κs = search needs
+
+cash-at-requires : tie.Need-cash-at-requires
+cash-at-requires c κs = search needs
+
+day-end-requires : tie.Need-day-end-requires
+day-end-requires c κs = search needs
+
+next-capacity-requires : tie.Need-next-capacity-requires
+next-capacity-requires c κs = search (left (search))
+
+bill-requires : tie.Need-bill-requires
+bill-requires c κs = search (left (search))
+
+forfeit-requires : tie.Need-forfeit-requires
+forfeit-requires c κs = search (left (search))
+
+month-end-requires : tie.Need-month-end-requires
+month-end-requires c κs = search (needs, left (search))
+
+returns : tie.Need-returns
+returns c = search month-closed
+
 pub close-month-spec : {M : Type 1} → statement M
-close-month-spec =
-    tie.close
-    (tie.spec
-    (λ c κs. search needs)
-    (λ c κs. search needs)
-    (λ c κs. search needs)
-    (λ c κs. search (left (search)))
-    (λ c κs. search (left (search)))
-    (λ c κs. search (left (search)))
-    (λ c κs. search (needs, left (search)))
-    (λ c. search month-closed))
+close-month-spec = tie.close (search (needs, tie.spec, violations-requires, cash-at-requires, day-end-requires, next-capacity-requires, bill-requires, forfeit-requires, month-end-requires, returns))

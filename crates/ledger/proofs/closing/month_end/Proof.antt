@@ -23,15 +23,17 @@ returns c =
       limit .limit .ensures .0,
     )
 
+limit-requires : tie.Need-limit-requires
+limit-requires c κs = search needs
+
+carry-requires : tie.Need-carry-requires
+carry-requires c κs = search needs
+
+less-requires : tie.Need-less-requires
+less-requires c κs = search needs
+
+plus-requires : tie.Need-plus-requires
+plus-requires c κs = search needs
+
 pub month-end-spec : {M : Type 1} → statement M
-month-end-spec =
-    tie.close
-    (tie.spec
-    (λ c κs. search needs)
-    (λ c κs. search needs)
-    (λ c κs. search needs)
-    (λ c κs. search needs)
-    (λ c κs. search needs)
-    (λ c κs. search needs)
-    (λ c κs. search needs)
-    returns)
+month-end-spec = tie.close (search (needs, tie.spec, limit-requires, carry-requires, less-requires, plus-requires, returns))

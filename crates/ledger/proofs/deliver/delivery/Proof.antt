@@ -33,14 +33,11 @@ retained-requires c κs =
     let w = deliver-fits (s .args .e) (s .pre .0) (s .pre .1) in
     (terms-bounds (s .args .t) (s .pre .3) .retainage, w .0, w .1)
 
+returns : tie.Need-returns
+returns c = search judged
+
+delivered-requires : tie.Need-delivered-requires
+delivered-requires c κs = search needs
+
 pub delivery-spec : {M : Type 1} → statement M
-delivery-spec =
-    tie.close
-    (tie.spec
-    retained-requires
-    (λ c κs. search needs)
-    (λ c κs. search needs)
-    (λ c κs. search needs)
-    (λ c κs. search needs)
-    (λ c κs. search needs)
-    (λ c. search judged))
+delivery-spec = tie.close (search (needs, tie.spec, delivered-requires, retained-requires, returns))

@@ -39,20 +39,11 @@ new-account-requires c κs =
     let w = enrol-fits (s .args .e) (s .pre .0) (s .pre .1) in
     (s .pre .3, w .0, w .1)
 
+returns : tie.Need-returns
+returns c = search judged
+
+opening-too-high-requires : tie.Need-opening-too-high-requires
+opening-too-high-requires c κs = search needs
+
 pub enrolment-spec : {M : Type 1} → statement M
-enrolment-spec =
-    tie.close
-    (tie.spec
-    new-account-requires
-    (λ c κs. search needs)
-    (λ c κs. search needs)
-    (λ c κs. search needs)
-    (λ c κs. search needs)
-    (λ c κs. search needs)
-    (λ c κs. search needs)
-    (λ c κs. search needs)
-    (λ c κs. search needs)
-    (λ c κs. search needs)
-    (λ c κs. search needs)
-    (λ c κs. search needs)
-    (λ c. search judged))
+enrolment-spec = tie.close (search (needs, tie.spec, opening-too-high-requires, new-account-requires, returns))

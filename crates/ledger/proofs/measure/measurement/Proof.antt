@@ -25,15 +25,14 @@ judged : (a b : Account) (e : Entry) (day fits : Bool) (n₁ n₂ n₃ n₄ : �
 unfolding measurement measureChecks afterMeasure verdict
 judged a b e day fits n₁ n₂ n₃ n₄ d p r q₁ q₂ q₃ q₄ = cc
 
+on-measurement-day-requires : tie.Need-on-measurement-day-requires
+on-measurement-day-requires c κs = search (needs, is-real)
+
+remeasured-requires : tie.Need-remeasured-requires
+remeasured-requires c κs = search (needs, measure-fits)
+
+returns : tie.Need-returns
+returns c = search judged
+
 pub measurement-spec : {M : Type 1} → statement M
-measurement-spec =
-    tie.close
-    (tie.spec
-    (λ c κs. search (needs, is-real))
-    (λ c κs. search (needs, measure-fits))
-    (λ c κs. search needs)
-    (λ c κs. search needs)
-    (λ c κs. search needs)
-    (λ c κs. search needs)
-    (λ c κs. search needs)
-    (λ c. search judged))
+measurement-spec = tie.close (search (needs, tie.spec, on-measurement-day-requires, remeasured-requires, returns))

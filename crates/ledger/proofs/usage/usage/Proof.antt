@@ -21,13 +21,8 @@ judged : (a b : Account) (e : Entry) (fits : Bool) (n₁ n₂ n₃ : ℕ)
 unfolding usage usageChecks afterUsage verdict
 judged a b e fits n₁ n₂ n₃ p r q₁ q₂ q₃ = cc
 
+returns : tie.Need-returns
+returns c = search judged
+
 pub usage-spec : {M : Type 1} → statement M
-usage-spec =
-    tie.close
-    (tie.spec
-    (λ c κs. search needs)
-    (λ c κs. search needs)
-    (λ c κs. search needs)
-    (λ c κs. search needs)
-    (λ c κs. search needs)
-    (λ c. search judged))
+usage-spec = tie.close (search (needs, tie.spec, returns))
