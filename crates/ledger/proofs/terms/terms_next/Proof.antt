@@ -1,5 +1,7 @@
+-- One account after the other is reworked under the entry's terms, so the array is filled from the front; at the end it is filled whole.
 use borrow.Author.Needs.{needs}
 use native.Mathlib.Omega.{arith}
+use mathlib.Core.List.{List}
 use mathlib.Core.Path.{_≡_, refl}
 use Prim.Native.Nat.{_-_, _≤_}
 use lib.ListN.{length}
@@ -8,9 +10,8 @@ use Rattle.ledger.proofs.Bounded.{account-ranged}
 use Rattle.ledger.proofs.Lists.{filled, filled-end, filled-next, length-mapped}
 use Rattle.ledger.specs.State.{accountAt, noMarks, noTotals, nobody}
 use Rattle.ledger.specs.Terms.{reworked, termsNext}
-use mathlib.Core.List.{List}
-use Rattle.ledger.specs.declared.state.Ledger.{Ledger}
 use Rattle.ledger.specs.declared.state.Account.{Account}
+use Rattle.ledger.specs.declared.state.Ledger.{Ledger}
 use Rattle.ledger.proofs.terms.terms_next.Statement.{statement}
 use Rattle.ledger.proofs.terms.terms_next.Tie as tie
 
@@ -24,8 +25,17 @@ Inv-loop l terms date next₀ i₀ next i = (i ≤ 16) × (next ≡ withAccounts
 abbrev μ-loop : tie.MeasureT-loop
 μ-loop l terms date next₀ i₀ next i = 16 - i
 
-sixteen : (c : tie.Start Inv-loop μ-loop) → length (c .args .t1 .accounts) ≡ 16
-sixteen c = search (needs, length-mapped)
+abbrev Start : Type 0
+Start = tie.Start Inv-loop μ-loop
+
+abbrev Loop : Type 0
+Loop = tie.At-loop Inv-loop μ-loop
+
+abbrev Terms-read : Type 0
+Terms-read = tie.After-terms Inv-loop μ-loop
+
+sixteen : (s : Start) → length (s .args .t1 .accounts) ≡ 16
+sixteen s = search (needs, length-mapped)
 
 loop-holds : tie.Need-loop-holds Inv-loop μ-loop
 loop-holds c = (search needs, refl)
@@ -33,33 +43,32 @@ loop-holds c = (search needs, refl)
 reworked-requires : tie.Need-reworked-requires Inv-loop μ-loop
 unfolding nobody noTotals noMarks accountAt
 reworked-requires c κs =
-    let s = c .before .before in
-    let r = s .before .before .before in (
-      rw (s .before .before .terms .ensures) (terms-fit (r .args .t1) (r .args .e) (r .pre .0) (r .pre .1)),
-      account-ranged (r .args .t1) (s .loop .i) (sixteen r) (omega arith) (is-ranged (r .args .t1) (r .args .e) (r .pre .0)),
+    let s : Start = search in
+    let v : Loop = search in
+    let t : Terms-read = search in (
+      rw (t .terms .ensures) (terms-fit (s .args .t1) (s .args .e) (s .pre .0) (s .pre .1)),
+      account-ranged (s .args .t1) (v .loop .i) (sixteen s) (omega arith) (is-ranged (s .args .t1) (s .args .e) (s .pre .0)),
     )
 
 loop-again : tie.Need-loop-again Inv-loop μ-loop
 unfolding nobody noTotals noMarks
 loop-again c =
-    let s = c .before .before .before in
-    let r = s .before .before .before in
-    let l = r .args .t1 .accounts in (
+    let s : Start = search in
+    let v : Loop = search in
+    let t : Terms-read = search in
+    let xs = s .args .t1 .accounts in (
       omega arith,
-      rw (s .loop .inv .1, c .reworked .ensures, filled-next (reworked (s .before .before .terms .result)) l l (s .loop .i) nobody (omega arith) (omega (arith, sixteen r))),
+      rw (v .loop .inv .1, c .reworked .ensures, filled-next (reworked (t .terms .result)) xs xs (v .loop .i) nobody (omega arith) (omega (arith, sixteen s))),
     )
 
 returns : tie.Need-returns Inv-loop μ-loop
 unfolding termsNext
 returns c =
-    let s = c .before in
-    let r = s .before .before .before in
-    let l = r .args .t1 .accounts in
-    rw (
-      s .loop .inv .1,
-      filled-end (reworked (s .before .before .terms .result)) l l (s .loop .i) (omega (arith, sixteen r)) (omega (arith, sixteen r)),
-      s .before .before .terms .ensures,
-    )
+    let s : Start = search in
+    let v : Loop = search in
+    let t : Terms-read = search in
+    let xs = s .args .t1 .accounts in
+    rw (v .loop .inv .1, filled-end (reworked (t .terms .result)) xs xs (v .loop .i) (omega (arith, sixteen s)) (omega (arith, sixteen s)), t .terms .ensures)
 
 pub terms-next-spec : {M : Type 1} → statement M
 terms-next-spec =
