@@ -1,3 +1,4 @@
+-- Of an account that exists the bank if it is open; past the sixteenth there is nobody, who has none.
 use borrow.Author.Needs.{needs}
 use native.Mathlib.Omega.{arith}
 use Prim.Native.Nat.{_≤_}

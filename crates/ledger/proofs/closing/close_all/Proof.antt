@@ -6,9 +6,10 @@ use mathlib.Core.Logic.{⊎-elim}
 use mathlib.Core.Bool.{Bool, _&&_, false, true}
 use Prim.Native.Nat.{ℕ, _+_, _-_, _<_, _≤_}
 use lib.ListN.{drop, getD-replicate, length, replicate, set}
-use Rattle.ledger.proofs.Admitted.{is-begun, is-ranged, is-real, prices-fit}
+use Rattle.ledger.proofs.Admitted.{is-begun, is-ranged, is-real, is-right}
 use Rattle.ledger.proofs.Bounded.{account-ranged, begun-ranged}
 use Rattle.ledger.proofs.Lists.{every-end, every-next, every-pass, filled, filled-end, filled-kept, filled-next, length-mapped}
+use Rattle.ledger.proofs.RightEntries.{prices-fit}
 use Rattle.ledger.specs.Answers.{quiet}
 use Rattle.ledger.specs.Closing.{accountClosed, closed, closedAccount, complete, notOpen, reportOf, staysInRange}
 use Rattle.ledger.specs.Ranges.{accountInRange, everyAccount}
@@ -131,7 +132,7 @@ unfolding nobody noTotals noMarks accountAt
 close-account-requires c κs =
     let s : Start = search in
     let v : Loop = search in
-    ((real-date s, ranged s (v .loop .i) (omega arith), in-force s, prices-fit (s .args .t1) (s .args .e) (s .pre .0)), c .if1 .taken)
+    ((real-date s, ranged s (v .loop .i) (omega arith), in-force s, prices-fit (s .args .e) (is-right (s .args .t1) (s .args .e) (s .pre .0))), c .if1 .taken)
 
 loop-again : tie.Need-loop-again Inv-loop μ-loop
 unfolding nobody noTotals noMarks accountAt

@@ -1,3 +1,4 @@
+-- A kind below 10 has its row in the table; past the table the rule has 0 too.
 use mathlib.Core.List.{[], _∷_}
 use lib.ListN.{List·getD-eq-default}
 use borrow.Author.Needs.{needs}

@@ -5,8 +5,9 @@ use mathlib.Core.List.{List}
 use mathlib.Core.Path.{_≡_, refl}
 use Prim.Native.Nat.{_-_, _≤_}
 use lib.ListN.{length}
-use Rattle.ledger.proofs.Admitted.{is-ranged, terms-fit}
+use Rattle.ledger.proofs.Admitted.{is-ranged, is-right}
 use Rattle.ledger.proofs.Bounded.{account-ranged}
+use Rattle.ledger.proofs.RightEntries.{terms-fit}
 use Rattle.ledger.proofs.Lists.{filled, filled-end, filled-next, length-mapped}
 use Rattle.ledger.specs.State.{accountAt, noMarks, noTotals, nobody}
 use Rattle.ledger.specs.Terms.{reworked, termsNext}
@@ -46,7 +47,7 @@ reworked-requires c κs =
     let s : Start = search in
     let v : Loop = search in
     let t : Terms-read = search in (
-      rw (t .terms .ensures) (terms-fit (s .args .t1) (s .args .e) (s .pre .0) (s .pre .1)),
+      rw (t .terms .ensures) (terms-fit (s .args .e) (is-right (s .args .t1) (s .args .e) (s .pre .0)) (s .pre .1)),
       account-ranged (s .args .t1) (v .loop .i) (sixteen s) (omega arith) (is-ranged (s .args .t1) (s .args .e) (s .pre .0)),
     )
 
