@@ -8,7 +8,7 @@ use Prim.Native.Nat.{ℕ, _+_, _-_, _<_, _≤_}
 use lib.ListN.{drop, getD-replicate, length, replicate, set}
 use Rattle.ledger.proofs.Admitted.{is-begun, is-ranged, is-real, is-right}
 use Rattle.ledger.proofs.Bounded.{account-ranged, begun-ranged}
-use Rattle.ledger.proofs.Lists.{every-end, every-next, every-pass, filled, filled-end, filled-kept, filled-next, length-mapped}
+use Rattle.ledger.proofs.Lists.{every-end, every-next, every-pass, filled, filled-end, filled-kept, filled-next, length-mapped, withAccounts}
 use Rattle.ledger.proofs.RightEntries.{prices-fit}
 use Rattle.ledger.specs.Answers.{quiet}
 use Rattle.ledger.specs.Closing.{accountClosed, closed, closedAccount, complete, notOpen, reportOf, staysInRange}
@@ -24,10 +24,6 @@ use Rattle.ledger.specs.declared.entries.Entry.{Entry}
 use Rattle.ledger.specs.declared.closing.Closed.{Closed}
 use Rattle.ledger.proofs.closing.close_all.Statement.{statement}
 use Rattle.ledger.proofs.closing.close_all.Tie as tie
-
--- the ledger with other accounts, and nothing else changed
-abbrev withAccounts : Ledger → List Account → Ledger
-withAccounts l xs = record { begun = l .begun; touched = l .touched; date = l .date; terms = l .terms; accounts = xs }
 
 -- ---- what the loop carries, with i accounts behind it
 
@@ -51,12 +47,6 @@ Inv-loop e l date terms next₀ reports₀ all₀ fits₀ i₀ next reports all 
 
 abbrev μ-loop : tie.MeasureT-loop
 μ-loop e l date terms next₀ reports₀ all₀ fits₀ i₀ next reports all fits i = 16 - i
-
-abbrev Start : Type 0
-Start = tie.Start Inv-loop μ-loop
-
-abbrev Loop : Type 0
-Loop = tie.At-loop Inv-loop μ-loop
 
 -- ---- one account further
 
@@ -109,7 +99,7 @@ module _ (l : Ledger) (e : Entry) (i : ℕ) (n : length (l .accounts) ≡ 16) (h
 
 -- ---- what holds of an admitted closing
 
-module _ (s : Start) where
+module _ (s : tie.Start Inv-loop μ-loop) where
   sixteen : length (s .args .t1 .accounts) ≡ 16
   sixteen = search (needs, length-mapped)
 
@@ -130,15 +120,15 @@ loop-holds c = (search needs, refl, rw (c .quiet .ensures), refl, refl)
 close-account-requires : tie.Need-close-account-requires Inv-loop μ-loop
 unfolding nobody noTotals noMarks accountAt
 close-account-requires c κs =
-    let s : Start = search in
-    let v : Loop = search in
+    let s : tie.Start Inv-loop μ-loop = search in
+    let v : tie.At-loop Inv-loop μ-loop = search in
     ((real-date s, ranged s (v .loop .i) (omega arith), in-force s, prices-fit (s .args .e) (is-right (s .args .t1) (s .args .e) (s .pre .0))), c .if1 .taken)
 
 loop-again : tie.Need-loop-again Inv-loop μ-loop
 unfolding nobody noTotals noMarks accountAt
 loop-again c =
-    let s : Start = search in
-    let v : Loop = search in
+    let s : tie.Start Inv-loop μ-loop = search in
+    let v : tie.At-loop Inv-loop μ-loop = search in
     let n : length (s .args .t1 .accounts) ≡ 16 = sixteen s in
     let h : v .loop .i < 16 = omega arith in
     let f = ranged s (v .loop .i) h in
@@ -165,8 +155,8 @@ loop-again c =
 returns : tie.Need-returns Inv-loop μ-loop
 unfolding closed
 returns c =
-    let s : Start = search in
-    let v : Loop = search in
+    let s : tie.Start Inv-loop μ-loop = search in
+    let v : tie.At-loop Inv-loop μ-loop = search in
     let l = s .args .t1 in
     let e = s .args .e in
     let i = v .loop .i in

@@ -25,36 +25,27 @@ Inv-loop l figure₀ i₀ figure i =
 abbrev μ-loop : tie.MeasureT-loop
 μ-loop l figure₀ i₀ figure i = 16 - i
 
-abbrev Start : Type 0
-Start = tie.Start Inv-loop μ-loop
-
-abbrev Loop : Type 0
-Loop = tie.At-loop Inv-loop μ-loop
-
-abbrev Bank : Type 0
-Bank = tie.After-open-bank Inv-loop μ-loop
-
-sixteen : (s : Start) → length (s .args .t1 .accounts) ≡ 16
+sixteen : (s : tie.Start Inv-loop μ-loop) → length (s .args .t1 .accounts) ≡ 16
 sixteen s = search (needs, length-mapped)
 
-one-bank : (c : Bank) → size (c .open-bank .result) ≤ 100000000000
+one-bank : (c : tie.After-open-bank Inv-loop μ-loop) → size (c .open-bank .result) ≤ 100000000000
 unfolding nobody noTotals noMarks accountAt
 one-bank c =
-    let s : Start = search in
-    let v : Loop = search in
+    let s : tie.Start Inv-loop μ-loop = search in
+    let v : tie.At-loop Inv-loop μ-loop = search in
     omega (arith, c .open-bank .ensures .1, bounded (accountAt (s .args .t1) (v .loop .i)) (account-ranged (s .args .t1) (v .loop .i) (sixteen s) (omega arith) (s .pre)) .bank)
 
 loop-holds : tie.Need-loop-holds Inv-loop μ-loop
 loop-holds c =
-    let s : Start = search in
+    let s : tie.Start Inv-loop μ-loop = search in
     (search needs, rw (c .nothing .ensures, nothing-value) (+ℤ-idl (openBanks (s .args .t1 .accounts))), rw (c .nothing .ensures) (omega (arith, size-nothing)))
 
 loop-again : tie.Need-loop-again Inv-loop μ-loop
 unfolding nobody noTotals noMarks
 loop-again c =
-    let s : Start = search in
-    let v : Loop = search in
-    let b : Bank = search in (
+    let s : tie.Start Inv-loop μ-loop = search in
+    let v : tie.At-loop Inv-loop μ-loop = search in
+    let b : tie.After-open-bank Inv-loop μ-loop = search in (
       omega arith,
       rw (c .plus .ensures .0, sum-value (v .loop .figure) (b .open-bank .result), b .open-bank .ensures .0)
           (sym (banks-next (s .args .t1 .accounts) (v .loop .i) nobody (v .loop .figure .0) (omega (arith, sixteen s))) ∙ v .loop .inv .1),
@@ -63,8 +54,8 @@ loop-again c =
 
 returns : tie.Need-returns Inv-loop μ-loop
 returns c =
-    let s : Start = search in
-    let v : Loop = search in
+    let s : tie.Start Inv-loop μ-loop = search in
+    let v : tie.At-loop Inv-loop μ-loop = search in
     sym (banks-end (s .args .t1 .accounts) (v .loop .i) (v .loop .figure .0) (omega (arith, sixteen s))) ∙ v .loop .inv .1
 
 pub open-banks-spec : {M : Type 1} → statement M

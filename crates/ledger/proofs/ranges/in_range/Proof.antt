@@ -17,13 +17,7 @@ Inv-loop l ok₀ i₀ ok i = (i ≤ 16) × (ok && everyAccount accountInRange (d
 abbrev μ-loop : tie.MeasureT-loop
 μ-loop l ok₀ i₀ ok i = 16 - i
 
-abbrev Start : Type 0
-Start = tie.Start Inv-loop μ-loop
-
-abbrev Loop : Type 0
-Loop = tie.At-loop Inv-loop μ-loop
-
-sixteen : (s : Start) → length (s .args .t1 .accounts) ≡ 16
+sixteen : (s : tie.Start Inv-loop μ-loop) → length (s .args .t1 .accounts) ≡ 16
 sixteen s = search (needs, length-mapped)
 
 loop-holds : tie.Need-loop-holds Inv-loop μ-loop
@@ -35,8 +29,8 @@ loop-holds c =
 loop-again : tie.Need-loop-again Inv-loop μ-loop
 unfolding nobody noTotals noMarks
 loop-again c =
-    let s : Start = search in
-    let v : Loop = search in (
+    let s : tie.Start Inv-loop μ-loop = search in
+    let v : tie.At-loop Inv-loop μ-loop = search in (
       omega arith,
       rw (c .account-in-range .ensures)
           (sym (every-next accountInRange (s .args .t1 .accounts) (v .loop .i) nobody (v .loop .ok) (omega (arith, sixteen s))) ∙ v .loop .inv .1),
@@ -44,8 +38,8 @@ loop-again c =
 
 returns : tie.Need-returns Inv-loop μ-loop
 returns c =
-    let s : Start = search in
-    let v : Loop = search in
+    let s : tie.Start Inv-loop μ-loop = search in
+    let v : tie.At-loop Inv-loop μ-loop = search in
     sym (every-end accountInRange (s .args .t1 .accounts) (v .loop .i) (v .loop .ok) (omega (arith, sixteen s))) ∙ v .loop .inv .1
 
 pub in-range-spec : {M : Type 1} → statement M

@@ -1,24 +1,17 @@
 -- One account after the other is reworked under the entry's terms, so the array is filled from the front; at the end it is filled whole.
 use borrow.Author.Needs.{needs}
 use native.Mathlib.Omega.{arith}
-use mathlib.Core.List.{List}
 use mathlib.Core.Path.{_≡_, refl}
 use Prim.Native.Nat.{_-_, _≤_}
 use lib.ListN.{length}
 use Rattle.ledger.proofs.Admitted.{is-ranged, is-right}
 use Rattle.ledger.proofs.Bounded.{account-ranged}
 use Rattle.ledger.proofs.RightEntries.{terms-fit}
-use Rattle.ledger.proofs.Lists.{filled, filled-end, filled-next, length-mapped}
+use Rattle.ledger.proofs.Lists.{filled, filled-end, filled-next, length-mapped, withAccounts}
 use Rattle.ledger.specs.State.{accountAt, noMarks, noTotals, nobody}
 use Rattle.ledger.specs.Terms.{reworked, termsNext}
-use Rattle.ledger.specs.declared.state.Account.{Account}
-use Rattle.ledger.specs.declared.state.Ledger.{Ledger}
 use Rattle.ledger.proofs.terms.terms_next.Statement.{statement}
 use Rattle.ledger.proofs.terms.terms_next.Tie as tie
-
--- the ledger with other accounts, and nothing else changed
-abbrev withAccounts : Ledger → List Account → Ledger
-withAccounts l xs = record { begun = l .begun; touched = l .touched; date = l .date; terms = l .terms; accounts = xs }
 
 abbrev Inv-loop : tie.InvT-loop
 Inv-loop l terms date next₀ i₀ next i = (i ≤ 16) × (next ≡ withAccounts l (filled (reworked terms) (l .accounts) (l .accounts) i))
@@ -26,16 +19,7 @@ Inv-loop l terms date next₀ i₀ next i = (i ≤ 16) × (next ≡ withAccounts
 abbrev μ-loop : tie.MeasureT-loop
 μ-loop l terms date next₀ i₀ next i = 16 - i
 
-abbrev Start : Type 0
-Start = tie.Start Inv-loop μ-loop
-
-abbrev Loop : Type 0
-Loop = tie.At-loop Inv-loop μ-loop
-
-abbrev Terms-read : Type 0
-Terms-read = tie.After-terms Inv-loop μ-loop
-
-sixteen : (s : Start) → length (s .args .t1 .accounts) ≡ 16
+sixteen : (s : tie.Start Inv-loop μ-loop) → length (s .args .t1 .accounts) ≡ 16
 sixteen s = search (needs, length-mapped)
 
 loop-holds : tie.Need-loop-holds Inv-loop μ-loop
@@ -44,9 +28,9 @@ loop-holds c = (search needs, refl)
 reworked-requires : tie.Need-reworked-requires Inv-loop μ-loop
 unfolding nobody noTotals noMarks accountAt
 reworked-requires c κs =
-    let s : Start = search in
-    let v : Loop = search in
-    let t : Terms-read = search in (
+    let s : tie.Start Inv-loop μ-loop = search in
+    let v : tie.At-loop Inv-loop μ-loop = search in
+    let t : tie.After-terms Inv-loop μ-loop = search in (
       rw (t .terms .ensures) (terms-fit (s .args .e) (is-right (s .args .t1) (s .args .e) (s .pre .0)) (s .pre .1)),
       account-ranged (s .args .t1) (v .loop .i) (sixteen s) (omega arith) (is-ranged (s .args .t1) (s .args .e) (s .pre .0)),
     )
@@ -54,9 +38,9 @@ reworked-requires c κs =
 loop-again : tie.Need-loop-again Inv-loop μ-loop
 unfolding nobody noTotals noMarks
 loop-again c =
-    let s : Start = search in
-    let v : Loop = search in
-    let t : Terms-read = search in
+    let s : tie.Start Inv-loop μ-loop = search in
+    let v : tie.At-loop Inv-loop μ-loop = search in
+    let t : tie.After-terms Inv-loop μ-loop = search in
     let xs = s .args .t1 .accounts in (
       omega arith,
       rw (v .loop .inv .1, c .reworked .ensures, filled-next (reworked (t .terms .result)) xs xs (v .loop .i) nobody (omega arith) (omega (arith, sixteen s))),
@@ -65,9 +49,9 @@ loop-again c =
 returns : tie.Need-returns Inv-loop μ-loop
 unfolding termsNext
 returns c =
-    let s : Start = search in
-    let v : Loop = search in
-    let t : Terms-read = search in
+    let s : tie.Start Inv-loop μ-loop = search in
+    let v : tie.At-loop Inv-loop μ-loop = search in
+    let t : tie.After-terms Inv-loop μ-loop = search in
     let xs = s .args .t1 .accounts in
     rw (v .loop .inv .1, filled-end (reworked (t .terms .result)) xs xs (v .loop .i) (omega (arith, sixteen s)) (omega (arith, sixteen s)), t .terms .ensures)
 
