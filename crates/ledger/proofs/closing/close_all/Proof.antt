@@ -34,16 +34,16 @@ module _ (l : Ledger) (e : Entry) (i : ℕ) where
   abbrev reportsTo : List Report
   reportsTo = filled (reportOf (l .terms) e) (l .accounts) (replicate 16 quiet) i
 
-  abbrev Agrees : (Account → Bool) → Bool → Type 0
-  Agrees p so-far = so-far && everyAccount p (drop i (l .accounts)) ≡ everyAccount p (l .accounts)
+abbrev Agrees : Ledger → ℕ → (Account → Bool) → Bool → Type 0
+Agrees l i p so-far = so-far && everyAccount p (drop i (l .accounts)) ≡ everyAccount p (l .accounts)
 
 abbrev Inv-loop : tie.InvT-loop
 Inv-loop e l date terms next₀ reports₀ all₀ fits₀ i₀ next reports all fits i =
     (i ≤ 16)
     × (next ≡ accountsTo l e i)
     × (reports ≡ reportsTo l e i)
-    × Agrees l e i (complete (e .date)) all
-    × Agrees l e i (staysInRange (l .terms) e) fits
+    × Agrees l i (complete (e .date)) all
+    × Agrees l i (staysInRange (l .terms) e) fits
 
 abbrev μ-loop : tie.MeasureT-loop
 μ-loop e l date terms next₀ reports₀ all₀ fits₀ i₀ next reports all fits i = 16 - i
@@ -61,12 +61,12 @@ module _ (l : Ledger) (e : Entry) (i : ℕ) (n : length (l .accounts) ≡ 16) (h
     unfolding accountAt reportOf
     open-reported reports r v q = cc (filled-next (reportOf (l .terms) e) (l .accounts) (replicate 16 quiet) i nobody (omega arith) (omega arith))
 
-    open-stays : (fits day end r : Bool) → Agrees l e i (staysInRange (l .terms) e) fits → day ≡ accountInRange (one .day) → end ≡ accountInRange (one .account) → r ≡ fits && (day && end)
-        → Agrees l e (i + 1) (staysInRange (l .terms) e) r
+    open-stays : (fits day end r : Bool) → Agrees l i (staysInRange (l .terms) e) fits → day ≡ accountInRange (one .day) → end ≡ accountInRange (one .account) → r ≡ fits && (day && end)
+        → Agrees l (i + 1) (staysInRange (l .terms) e) r
     unfolding accountAt staysInRange
     open-stays fits day end r v x y q = cc (every-next (staysInRange (l .terms) e) (l .accounts) i nobody fits (omega arith))
 
-  open-complete : (all ready r : Bool) → Agrees l e i (complete (e .date)) all → ready ≡ complete (e .date) (accountAt l i) → r ≡ all && ready → Agrees l e (i + 1) (complete (e .date)) r
+  open-complete : (all ready r : Bool) → Agrees l i (complete (e .date)) all → ready ≡ complete (e .date) (accountAt l i) → r ≡ all && ready → Agrees l (i + 1) (complete (e .date)) r
   unfolding accountAt
   open-complete all ready r v x q = cc (every-next (complete (e .date)) (l .accounts) i nobody all (omega arith))
 
@@ -88,11 +88,11 @@ module _ (l : Ledger) (e : Entry) (i : ℕ) (n : length (l .accounts) ≡ 16) (h
         ∙ v
         ∙ filled-kept (reportOf (l .terms) e) (l .accounts) (replicate 16 quiet) i nobody quiet (omega arith) (omega arith) (ap (λ (c : Closed). c .report) shut ∙ sym (getD-replicate 16 i quiet quiet h))
 
-    shut-complete : (all r : Bool) → Agrees l e i (complete (e .date)) all → r ≡ all → Agrees l e (i + 1) (complete (e .date)) r
+    shut-complete : (all r : Bool) → Agrees l i (complete (e .date)) all → r ≡ all → Agrees l (i + 1) (complete (e .date)) r
     unfolding accountAt complete
     shut-complete all r v q = cc (every-pass (complete (e .date)) (l .accounts) i nobody all (omega arith) (rw o))
 
-    shut-stays : (fits r : Bool) → accountInRange (accountAt l i) ≡ true → Agrees l e i (staysInRange (l .terms) e) fits → r ≡ fits → Agrees l e (i + 1) (staysInRange (l .terms) e) r
+    shut-stays : (fits r : Bool) → accountInRange (accountAt l i) ≡ true → Agrees l i (staysInRange (l .terms) e) fits → r ≡ fits → Agrees l (i + 1) (staysInRange (l .terms) e) r
     unfolding accountAt staysInRange notOpen
     shut-stays fits r x v q =
         cc (every-pass (staysInRange (l .terms) e) (l .accounts) i nobody fits (omega arith) (ap (λ (c : Closed). accountInRange (c .day) && accountInRange (c .account)) shut ∙ rw x))

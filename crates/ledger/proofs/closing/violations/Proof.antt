@@ -24,16 +24,26 @@ masked : (d : Date) (a : Account) (limit : Quantity) (v3 v4 v5 v6 v7 v8 : Bool) 
 unfolding violationsOf
 masked d a limit v3 v4 v5 v6 v7 v8 mask l p3 p4 p5 p6 p7 p8 m = cc
 
+limit-requires : tie.Need-limit-requires
+limit-requires c κs = known (search) .bcq
+
+breaks-v3-requires : tie.Need-breaks-v3-requires
+breaks-v3-requires c κs = known (search) .bcq
+
+breaks-v4-requires : tie.Need-breaks-v4-requires
+breaks-v4-requires c κs = omega (arith, known (search))
+
+breaks-v5-requires : tie.Need-breaks-v5-requires
+breaks-v5-requires c κs = search (known (search))
+
+breaks-v6-requires : tie.Need-breaks-v6-requires
+breaks-v6-requires c κs = known (search) .bcq
+
+breaks-v8-requires : tie.Need-breaks-v8-requires
+breaks-v8-requires c κs = known (search) .bcq
+
+returns : tie.Need-returns
+returns c = search masked
+
 pub violations-spec : {M : Type 1} → statement M
-violations-spec =
-    tie.close
-    (tie.spec
-    (λ c κs. known (search) .bcq)
-    (λ c κs. known (search) .bcq)
-    (λ c κs. omega (arith, known (search)))
-    (λ c κs. search (known (search)))
-    (λ c κs. known (search) .bcq)
-    (λ c κs. search needs)
-    (λ c κs. known (search) .bcq)
-    (λ c κs. search needs)
-    (λ c. search masked))
+violations-spec = tie.close (search (needs, tie.spec, limit-requires, breaks-v3-requires, breaks-v4-requires, breaks-v5-requires, breaks-v6-requires, breaks-v8-requires, returns))

@@ -15,13 +15,14 @@ returns c =
       search needs,
     )
 
+first-requires : tie.Need-first-requires
+first-requires c κs = search needs
+
+capacity-requires : tie.Need-capacity-requires
+capacity-requires c κs = search needs
+
+of-requires : tie.Need-of-requires
+of-requires c κs = search needs
+
 pub new-account-spec : {M : Type 1} → statement M
-new-account-spec =
-    tie.close
-    (tie.spec
-    (λ c κs. search needs)
-    (λ c κs. search needs)
-    (λ c κs. search needs)
-    (λ c κs. search needs)
-    (λ c κs. search needs)
-    returns)
+new-account-spec = tie.close (search (needs, tie.spec, first-requires, capacity-requires, of-requires, returns))

@@ -42,19 +42,17 @@ returns c =
     let v : tie.At-loop Inv-loop μ-loop = search in
     sym (every-end accountInRange (s .args .t1 .accounts) (v .loop .i) (v .loop .ok) (omega (arith, sixteen s))) ∙ v .loop .inv .1
 
+mul-a : tie.Need-mul-a Inv-loop μ-loop
+mul-a c = search needs
+
+element-copy-out-a : tie.Need-element-copy-out-a Inv-loop μ-loop
+element-copy-out-a c = search needs
+
+add-i : tie.Need-add-i Inv-loop μ-loop
+add-i c = search needs
+
+loop-less : tie.Need-loop-less Inv-loop μ-loop
+loop-less c = search needs
+
 pub in-range-spec : {M : Type 1} → statement M
-in-range-spec =
-    tie.close
-    (tie.spec
-    Inv-loop
-    μ-loop
-    (λ c κs. search needs)
-    (λ c κs. search needs)
-    loop-holds
-    (λ c. search needs)
-    (λ c. search needs)
-    (λ c κs. search needs)
-    (λ c. search needs)
-    (λ c. search needs)
-    loop-again
-    returns)
+in-range-spec {M = M} = tie.close (search (needs, tie.spec {M = M} Inv-loop μ-loop, loop-holds, mul-a, element-copy-out-a, add-i, loop-less, loop-again, returns))

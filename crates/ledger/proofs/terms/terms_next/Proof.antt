@@ -55,20 +55,25 @@ returns c =
     let xs = s .args .t1 .accounts in
     rw (v .loop .inv .1, filled-end (reworked (t .terms .result)) xs xs (v .loop .i) (omega (arith, sixteen s)) (omega (arith, sixteen s)), t .terms .ensures)
 
+mul-a : tie.Need-mul-a Inv-loop μ-loop
+mul-a c = search needs
+
+element-copy-out-a : tie.Need-element-copy-out-a Inv-loop μ-loop
+element-copy-out-a c = search needs
+
+mul-b : tie.Need-mul-b Inv-loop μ-loop
+mul-b c = search needs
+
+element-set-from-b : tie.Need-element-set-from-b Inv-loop μ-loop
+element-set-from-b c = search needs
+
+add-i : tie.Need-add-i Inv-loop μ-loop
+add-i c = search needs
+
+loop-less : tie.Need-loop-less Inv-loop μ-loop
+loop-less c = search needs
+
 pub terms-next-spec : {M : Type 1} → statement M
-terms-next-spec =
+terms-next-spec {M = M} =
     tie.close
-    (tie.spec
-    Inv-loop
-    μ-loop
-    (λ c κs. search needs)
-    loop-holds
-    (λ c. search needs)
-    (λ c. search needs)
-    reworked-requires
-    (λ c. search needs)
-    (λ c. search needs)
-    (λ c. search needs)
-    (λ c. search needs)
-    loop-again
-    returns)
+    (search (needs, tie.spec {M = M} Inv-loop μ-loop, loop-holds, reworked-requires, mul-a, element-copy-out-a, mul-b, element-set-from-b, add-i, loop-less, loop-again, returns))

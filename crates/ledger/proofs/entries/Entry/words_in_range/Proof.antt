@@ -2,30 +2,16 @@
 use borrow.Author.Needs.{needs}
 use borrow.Author.Tests.{ne-eqb}
 use Prim.Native.Nat.{ℕ}
-use mathlib.Core.Bool.{Bool, _&&_, true}
+use mathlib.Core.Bool.{Bool, true}
 use mathlib.Core.Path.{_∙_, _≡_, sym}
 use Rattle.ledger.proofs.KindCases.{wordsBy, words-at}
-use Rattle.tariff.specs.Bill.{pricesInRange}
-use Rattle.tariff.specs.Terms.{termsInRange}
-use Rattle.tariff.specs.declared.bill.Prices.{Prices}
-use Rattle.tariff.specs.declared.terms.Terms.{Terms}
-use Rattle.ledger.specs.Entries.{pricesOf, someUnits, termsOf, wordsInRange}
+use Rattle.ledger.specs.Entries.{wordsInRange}
 use Rattle.ledger.specs.declared.entries.Entry.{Entry}
 use Rattle.ledger.proofs.entries.Entry.words_in_range.Statement.{statement}
 use Rattle.ledger.proofs.entries.Entry.words_in_range.Tie as tie
 
-module _ (e : Entry) (r : Bool) where
-  at-kind : (n : ℕ) → e .kind ≡ n → r ≡ wordsBy e n → r ≡ wordsInRange e
-  at-kind n k p = p ∙ sym (words-at e n k)
-
-  at-terms : e .kind ≡ 1 → (t : Terms) → t ≡ termsOf e → r ≡ termsInRange t → r ≡ wordsInRange e
-  at-terms k t p q = cc (words-at e 1 k)
-
-  at-prices : e .kind ≡ 9 → (p : Prices) → p ≡ pricesOf e → r ≡ pricesInRange p → r ≡ wordsInRange e
-  at-prices k p q z = cc (words-at e 9 k)
-
-at-transfer : (e : Entry) → e .kind ≡ 4 → (x y : Bool) → x ≡ someUnits (e .w1) → y ≡ someUnits (e .w2) → x && y ≡ wordsInRange e
-at-transfer e k x y p q = cc (words-at e 4 k)
+at-kind : (e : Entry) (n : ℕ) (r : Bool) → e .kind ≡ n → r ≡ wordsBy e n → r ≡ wordsInRange e
+at-kind e n r k p = p ∙ sym (words-at e n k)
 
 none : (e : Entry) → (e .kind ≡ 1 → ⊥) → (e .kind ≡ 2 → ⊥) → (e .kind ≡ 3 → ⊥) → (e .kind ≡ 4 → ⊥) → (e .kind ≡ 5 → ⊥) → (e .kind ≡ 6 → ⊥) → (e .kind ≡ 7 → ⊥) → (e .kind ≡ 9 → ⊥) → true ≡ wordsInRange e
 unfolding wordsInRange
@@ -43,12 +29,12 @@ words-in-range-spec =
     (λ c κs. search needs)
     (λ c κs. search needs)
     (λ c κs. search needs)
-    (λ c. search at-terms)
+    (λ c. let s : tie.Start = search in cc (words-at (s .args .self) 1 (search)))
     (λ c. search (needs, at-kind))
     (λ c. search (needs, at-kind))
-    (λ c. search at-transfer)
+    (λ c. let s : tie.Start = search in cc (words-at (s .args .self) 4 (search)))
     (λ c. search (needs, at-kind))
     (λ c. search (needs, at-kind))
     (λ c. search (needs, at-kind))
-    (λ c. search at-prices)
+    (λ c. let s : tie.Start = search in cc (words-at (s .args .self) 9 (search)))
     (λ c. search none))
