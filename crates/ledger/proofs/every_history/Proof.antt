@@ -3,8 +3,6 @@ use Rattle.ledger.proofs.Histories.{banks-add-up, panel-adds-up, debts-
 use Rattle.ledger.proofs.every_history.Statement.{statement}
 use Rattle.ledger.proofs.every_history.Tie as tie
 
-returns : tie.Need-returns
-returns c = (banks-add-up, (panel-adds-up, (debts-add-up, (days-add-up, striking-changes-nothing))))
-
 pub every-history-spec : {M : Type 1} → statement M
-every-history-spec = tie.close (tie.spec returns)
+every-history-spec =
+    tie.close (tie.spec (λ c. (banks-add-up, (panel-adds-up, (debts-add-up, (days-add-up, striking-changes-nothing))))))

@@ -1,9 +1,8 @@
 -- TERMS and TRANSFER have their own rules, and an entry of several accounts that is neither closes.
 use borrow.Author.Needs.{needs}
 use borrow.Author.Tests.{ne-eqb}
-use Prim.Native.Nat.{ℕ}
-use mathlib.Core.Path.{_∙_, _≡_, sym}
-use Rattle.ledger.proofs.KindCases.{several-at, several-closes, severalBy}
+use mathlib.Core.Path.{_≡_}
+use Rattle.ledger.proofs.KindCases.{several-at, several-closes}
 use Rattle.ledger.specs.Closing.{postClosing}
 use Rattle.ledger.specs.Posting.{postSeveral}
 use Rattle.ledger.specs.declared.answers.Posted.{Posted}
@@ -12,13 +11,9 @@ use Rattle.ledger.specs.declared.state.Ledger.{Ledger}
 use Rattle.ledger.proofs.postings.post_several.Statement.{statement}
 use Rattle.ledger.proofs.postings.post_several.Tie as tie
 
-module _ (l : Ledger) (e : Entry) (r : Posted) where
-  at-kind : (n : ℕ) → e .kind ≡ n → r ≡ severalBy l e n → r ≡ postSeveral l e
-  at-kind n k p = p ∙ sym (several-at l e n k)
-
-  at-closing : (e .kind ≡ 1 → ⊥) → (e .kind ≡ 4 → ⊥) → r ≡ postClosing l e → r ≡ postSeveral l e
-  unfolding postSeveral
-  at-closing d1 d4 p = rw (ne-eqb (e .kind) 1 d1, ne-eqb (e .kind) 4 d4) p
+at-closing : (l : Ledger) (e : Entry) (r : Posted) → (e .kind ≡ 1 → ⊥) → (e .kind ≡ 4 → ⊥) → r ≡ postClosing l e → r ≡ postSeveral l e
+unfolding postSeveral
+at-closing l e r d1 d4 p = rw (ne-eqb (e .kind) 1 d1, ne-eqb (e .kind) 4 d4) p
 
 pub post-several-spec : {M : Type 1} → statement M
 post-several-spec =
@@ -27,6 +22,6 @@ post-several-spec =
     (λ c κs. search needs)
     (λ c κs. search needs)
     (λ c κs. search (needs, several-closes))
-    (λ c. search at-kind)
-    (λ c. search at-kind)
+    (λ c. search several-at)
+    (λ c. search several-at)
     (λ c. search at-closing))
