@@ -171,26 +171,37 @@ returns c =
       ),
     )
 
+complete-requires : tie.Need-complete-requires Inv-loop μ-loop
+complete-requires c κs = real-date (search)
+
+day-after-requires : tie.Need-day-after-requires Inv-loop μ-loop
+day-after-requires c κs = real-date (search)
+
+mul-a : tie.Need-mul-a Inv-loop μ-loop
+mul-a c = search needs
+
+element-copy-out-a : tie.Need-element-copy-out-a Inv-loop μ-loop
+element-copy-out-a c = search needs
+
+mul-account : tie.Need-mul-account Inv-loop μ-loop
+mul-account c = search needs
+
+element-set-from-account : tie.Need-element-set-from-account Inv-loop μ-loop
+element-set-from-account c = search needs
+
+mul-reports : tie.Need-mul-reports Inv-loop μ-loop
+mul-reports c = search needs
+
+array-set-from-reports : tie.Need-array-set-from-reports Inv-loop μ-loop
+array-set-from-reports c = search needs
+
+add-i : tie.Need-add-i Inv-loop μ-loop
+add-i c = search needs
+
+loop-less : tie.Need-loop-less Inv-loop μ-loop
+loop-less c = search needs
+
 pub close-all-spec : {M : Type 1} → statement M
-close-all-spec =
+close-all-spec {M = M} =
     tie.close
-    (tie.spec
-    Inv-loop
-    μ-loop
-    (λ c κs. search needs)
-    loop-holds
-    (λ c. search needs)
-    (λ c. search needs)
-    close-account-requires
-    (λ c κs. real-date (search))
-    (λ c κs. search needs)
-    (λ c κs. search needs)
-    (λ c. search needs)
-    (λ c. search needs)
-    (λ c. search needs)
-    (λ c. search needs)
-    (λ c. search needs)
-    (λ c. search needs)
-    loop-again
-    (λ c κs. real-date (search))
-    returns)
+    (search (needs, tie.spec {M = M} Inv-loop μ-loop, loop-holds, mul-a, element-copy-out-a, close-account-requires, complete-requires, mul-account, element-set-from-account, mul-reports, array-set-from-reports, add-i, loop-less, loop-again, day-after-requires, returns))
