@@ -3,15 +3,12 @@ use Prim.Native.Nat.{ℕ, _≤_, _<_}
 use mathlib.Core.Path.{_≡_, refl, sym, _∙_}
 use mathlib.Core.Bool.{Bool, true, false, cond, not, _&&_}
 use mathlib.Core.List.{_++_}
-use native.Mathlib.Omega.{arith}
 use lib.Dec.{eqb}
 use borrow.Author.Tests.{eqb-true, eq-eqb, ne-eqb, not-false}
 use Rattle.tariff.specs.Dates.{real}
-use Rattle.tariff.specs.Terms.{termsInRange}
-use Rattle.tariff.specs.Bill.{pricesInRange}
 use Rattle.tariff.specs.declared.dates.Date.{Date}
 use Rattle.ledger.specs.Checks.{verdict}
-use Rattle.ledger.specs.Entries.{termsOf, pricesOf, entryChecks, entryNumber}
+use Rattle.ledger.specs.Entries.{entryChecks, entryNumber}
 use Rattle.ledger.specs.Ranges.{inRange}
 use Rattle.ledger.specs.Posting.{standingChecks, admission}
 use Rattle.ledger.specs.declared.state.Ledger.{Ledger}
@@ -33,7 +30,7 @@ module _ (fits begun : Bool) (today : Date) (e : Entry) where
   admission-standing own = rw (admission-by, eq-eqb (entryNumber e) 0 own)
 
   -- one that is not refused is right in itself
-  pub own-number : verdict (entryChecks e ++ standingChecks fits begun today e) ≡ 0 → entryNumber e ≡ 0
+  own-number : verdict (entryChecks e ++ standingChecks fits begun today e) ≡ 0 → entryNumber e ≡ 0
   own-number h = go (eqb (entryNumber e) 0) (entryNumber e) (verdict (standingChecks fits begun today e)) refl (sym admission-by ∙ h)
     where
       go : (t : Bool) (n m : ℕ) → eqb n 0 ≡ t → cond t m n ≡ 0 → n ≡ 0
@@ -73,11 +70,5 @@ module _ (l : Ledger) (e : Entry) (h : admission l e ≡ 0) where
   pub b-fits : e .kind ≡ 4 → e .b < 16
   b-fits = right.b-fits e is-right
 
-  pub terms-fit : e .kind ≡ 1 → termsInRange (termsOf e) ≡ true
-  terms-fit = right.terms-fit e is-right
-
   pub transfer-fits : e .kind ≡ 4 → (e .w1 ≤ 1000000000) × (e .a ≡ e .b → ⊥)
   transfer-fits = right.transfer-fits e is-right
-
-  pub prices-fit : e .kind ≡ 9 → pricesInRange (pricesOf e) ≡ true
-  prices-fit = right.prices-fit e is-right

@@ -1,6 +1,6 @@
 -- What depends on the kind, at a kind that is known.
 use Prim.Native.Nat.{ℕ, _≤_}
-use mathlib.Core.Path.{_≡_, ap}
+use mathlib.Core.Path.{_∙_, _≡_, ap, sym}
 use mathlib.Core.Bool.{Bool, true, false, cond, _&&_, _||_}
 use native.Mathlib.Omega.{arith}
 use lib.Dec.{leb, eqb}
@@ -41,14 +41,14 @@ pub words-at : (e : Entry) (n : ℕ) → e .kind ≡ n → wordsInRange e ≡ wo
 unfolding wordsInRange
 words-at e n k = ap (wordsBy e) k
 
-abbrev pub severalBy : Ledger → Entry → ℕ → Posted
+abbrev severalBy : Ledger → Entry → ℕ → Posted
 severalBy l e n = cond (eqb n 1) (postTerms l e) (cond (eqb n 4) (postTransfer l e) (postClosing l e))
 
-pub several-at : (l : Ledger) (e : Entry) (n : ℕ) → e .kind ≡ n → postSeveral l e ≡ severalBy l e n
+pub several-at : (l : Ledger) (e : Entry) (n : ℕ) (r : Posted) → e .kind ≡ n → r ≡ severalBy l e n → r ≡ postSeveral l e
 unfolding postSeveral
-several-at l e n k = ap (severalBy l e) k
+several-at l e n r k p = p ∙ ap (severalBy l e) (sym k)
 
-abbrev pub changeBy : Terms → Account → Entry → ℕ → Change
+abbrev changeBy : Terms → Account → Entry → ℕ → Change
 changeBy t a e n =
     cond (eqb n 2) (enrolment t a e)
     (cond (eqb n 3) (delivery t a e)
@@ -56,9 +56,9 @@ changeBy t a e n =
     (cond (eqb n 6) (measurement a e)
     (usage a e))))
 
-pub change-at : (t : Terms) (a : Account) (e : Entry) (n : ℕ) → e .kind ≡ n → changeOf t a e ≡ changeBy t a e n
+pub change-at : (t : Terms) (a : Account) (e : Entry) (n : ℕ) (r : Change) → e .kind ≡ n → r ≡ changeBy t a e n → r ≡ changeOf t a e
 unfolding changeOf
-change-at t a e n k = ap (changeBy t a e) k
+change-at t a e n r k p = p ∙ ap (changeBy t a e) (sym k)
 
 -- ---- which kinds concern one account
 

@@ -1,3 +1,4 @@
+-- The lemmas that more than one function's proof uses, and those that the crates above use.
 pub mod Verdicts
 pub mod Lists
 pub mod Bounded

@@ -10,6 +10,7 @@ use lib.Seq.{drop-cons, take-all}
 use Rattle.tariff.proofs.Bools.{and-left, and-right}
 use Rattle.ledger.specs.Ranges.{everyAccount}
 use Rattle.ledger.specs.declared.state.Account.{Account}
+use Rattle.ledger.specs.declared.state.Ledger.{Ledger}
 
 -- ---- a test of every account
 
@@ -37,6 +38,10 @@ module _ (p : Account → Bool) where
   every-set [] i v e h = e
   every-set (x ∷ xs) zero v e h = rw h (and-right (p x) (everyAccount p xs) e)
   every-set (x ∷ xs) (suc i) v e h = rw (and-left (p x) (everyAccount p xs) e) (every-set xs i v (and-right (p x) (everyAccount p xs) e) h)
+
+-- the ledger with other accounts, and nothing else changed
+abbrev pub withAccounts : Ledger → List Account → Ledger
+withAccounts l xs = record { begun = l .begun; touched = l .touched; date = l .date; terms = l .terms; accounts = xs }
 
 -- ---- an array that is filled from the front: f of the elements of xs passed, then what ys had
 

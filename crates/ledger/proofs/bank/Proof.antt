@@ -1,3 +1,4 @@
+-- Of an account that exists the bank if it is open; past the sixteenth there is nobody, who has none.
 use borrow.Author.Needs.{needs}
 use native.Mathlib.Omega.{arith}
 use Prim.Native.Nat.{_≤_}
@@ -20,11 +21,8 @@ returns c =
     let past : length (s .args .t1 .accounts) ≤ s .args .account = omega (arith, sixteen s) in
     rw (c .nothing .ensures, nothing-value, List·getD-eq-default (s .args .t1 .accounts) nobody past)
 
-returns-2 : tie.Need-returns-2
-unfolding bankOf accountAt nobody noTotals noMarks
-returns-2 c = c .open-bank .ensures .0
-
 pub bank-spec : {M : Type 1} → statement M
+unfolding bankOf accountAt nobody noTotals noMarks
 bank-spec =
     tie.close
-    (tie.spec (λ c κs. search needs) returns (λ c. search needs) (λ c. search needs) (λ c κs. search needs) returns-2)
+    (tie.spec (λ c κs. search needs) returns (λ c. search needs) (λ c. search needs) (λ c κs. search needs) (λ c. c .open-bank .ensures .0))

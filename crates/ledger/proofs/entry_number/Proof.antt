@@ -1,20 +1,24 @@
-use mathlib.Core.Path.{ap, _∙_}
-use lib.ListN.{length}
+-- Bytes of another length than 32 have number 1; else the number is that of the entry they hold.
 use borrow.Author.Needs.{needs}
 use borrow.Author.Tests.{eq-eqb, ne-eqb}
-use Rattle.ledger.specs.Entries.{entryNumber, formNumber}
+use Prim.Native.Nat.{ℕ}
+use mathlib.Core.List.{List}
+use mathlib.Core.Path.{_≡_}
+use lib.ListN.{length}
+use Rattle.ledger.specs.Entries.{entryNumber, entryOf, formNumber}
+use Rattle.ledger.specs.declared.entries.Entry.{Entry}
 use Rattle.ledger.proofs.entry_number.Statement.{statement}
 use Rattle.ledger.proofs.entry_number.Tie as tie
 
-returns : tie.Need-returns
-unfolding formNumber
-returns c = rw (ne-eqb (length (c .before .before .args .entry .now)) 32 (c .if1 .taken))
+module _ (b : List ℕ) where
+  otherwise : (length b ≡ 32 → ⊥) → 1 ≡ formNumber b
+  unfolding formNumber
+  otherwise d = cc (ne-eqb (length b) 32 d)
 
-returns-2 : tie.Need-returns-2
-unfolding formNumber
-returns-2 c =
-    rw (eq-eqb (length (c .before .before .before .before .args .entry .now)) 32 (c .before .before .if1 .left))
-    (c .number .ensures ∙ ap entryNumber (c .before .decode .ensures))
+  whole : length b ≡ 32 → (e : Entry) (n : ℕ) → e ≡ entryOf b → n ≡ entryNumber e → n ≡ formNumber b
+  unfolding formNumber
+  whole h e n p q = cc (eq-eqb (length b) 32 h)
 
 pub entry-number-spec : {M : Type 1} → statement M
-entry-number-spec = tie.close (tie.spec returns (λ c κs. search needs) (λ c κs. search needs) returns-2)
+entry-number-spec =
+    tie.close (tie.spec (λ c. search otherwise) (λ c κs. search needs) (λ c κs. search needs) (λ c. search whole))

@@ -1,12 +1,9 @@
+-- A fresh ledger holds sixteen accounts that are not open, and zeros.
 use borrow.Author.Needs.{needs}
 use Rattle.ledger.specs.State.{fresh}
 use Rattle.ledger.proofs.fresh.Statement.{statement}
 use Rattle.ledger.proofs.fresh.Tie as tie
 
-returns : tie.Need-returns
-unfolding fresh
-returns c = rw
-    (c .nobody .ensures)
-
 pub fresh-spec : {M : Type 1} → statement M
-fresh-spec = tie.close (tie.spec (λ c κs. search needs) returns)
+unfolding fresh
+fresh-spec = tie.close (tie.spec (λ c κs. search needs) (λ c. rw (c .nobody .ensures)))

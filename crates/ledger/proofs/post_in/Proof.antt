@@ -1,4 +1,4 @@
--- `ledger::post_in` meets its contract, by the walk in LentPosting.
+-- The lent ledger takes what `post` makes of it and the answer goes back: LentPosting walks those few steps, for the code as it was compiled.
 use mathlib.Core.Path.{_≡_, refl, subst}
 use mir.Syntax.{Fn}
 use prog.Wp.{WpFn}

@@ -1,16 +1,23 @@
+-- Number 0 hands on the next ledger, any other the ledger as it was; the answer is plain either way.
 use borrow.Author.Needs.{needs}
 use borrow.Author.Tests.{ne-eqb}
+use Prim.Native.Nat.{ℕ}
+use mathlib.Core.Path.{_≡_}
 use Rattle.ledger.specs.Answers.{refused, settle}
+use Rattle.ledger.specs.declared.answers.Posted.{Posted}
+use Rattle.ledger.specs.declared.state.Ledger.{Ledger}
 use Rattle.ledger.proofs.answers.settle.Statement.{statement}
 use Rattle.ledger.proofs.answers.settle.Tie as tie
 
-returns : tie.Need-returns
-unfolding settle refused
-returns c = rw (c .refused .ensures, c .before .if1 .taken)
+module _ (l next : Ledger) (n : ℕ) (r : Posted) where
+  accepted : n ≡ 0 → r ≡ refused next n → r ≡ settle l n next
+  unfolding settle refused
+  accepted z p = cc
 
-returns-2 : tie.Need-returns-2
-unfolding settle refused
-returns-2 c = rw (c .refused2 .ensures, ne-eqb (c .before .before .args .n) 0 (c .before .if1 .left))
+  kept : (n ≡ 0 → ⊥) → r ≡ refused l n → r ≡ settle l n next
+  unfolding settle refused
+  kept d p = cc (ne-eqb n 0 d)
 
 pub settle-spec : {M : Type 1} → statement M
-settle-spec = tie.close (tie.spec (λ c κs. search needs) returns (λ c κs. search needs) returns-2)
+settle-spec =
+    tie.close (tie.spec (λ c κs. search needs) (λ c. search accepted) (λ c κs. search needs) (λ c. search kept))

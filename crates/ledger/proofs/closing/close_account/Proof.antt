@@ -1,29 +1,33 @@
+-- An open account is closed for the month if the entry's kind says so, else for the day; a month's closing has prices in range.
 use borrow.Author.Needs.{needs}
 use borrow.Author.Tests.{eq-eqb, ne-eqb}
-use Rattle.ledger.specs.Closing.{closedAccount}
+use mathlib.Core.Bool.{true}
+use mathlib.Core.Path.{_≡_}
+use Rattle.tariff.specs.declared.bill.Prices.{Prices}
+use Rattle.tariff.specs.declared.terms.Terms.{Terms}
+use Rattle.ledger.specs.Closing.{closedAccount, closedDay, closedMonth}
+use Rattle.ledger.specs.Entries.{pricesOf}
+use Rattle.ledger.specs.declared.closing.Closed.{Closed}
+use Rattle.ledger.specs.declared.entries.Entry.{Entry}
+use Rattle.ledger.specs.declared.state.Account.{Account}
 use Rattle.ledger.proofs.closing.close_account.Statement.{statement}
 use Rattle.ledger.proofs.closing.close_account.Tie as tie
+
+module _ (t : Terms) (e : Entry) (a : Account) (open′ : a .opened ≡ true) (r : Closed) where
+  for-month : e .kind ≡ 9 → (p : Prices) → p ≡ pricesOf e → r ≡ closedMonth (e .date) t p a → r ≡ closedAccount t e a
+  unfolding closedAccount
+  for-month k p q h = cc (eq-eqb (e .kind) 9 k)
+
+  for-day : (e .kind ≡ 9 → ⊥) → r ≡ closedDay (e .date) a → r ≡ closedAccount t e a
+  unfolding closedAccount
+  for-day k h = cc (ne-eqb (e .kind) 9 k)
 
 close-month-requires : tie.Need-close-month-requires
 close-month-requires c κs =
     let s : tie.Start = search in
-    ((s .pre .0 .0, s .pre .0 .1, s .pre .1), (s .pre .0 .2, rw (c .prices .ensures) (s .pre .0 .3 (c .before .if1 .taken))))
-
-returns : tie.Need-returns
-unfolding closedAccount
-returns c =
-    let s : tie.Start = search in
-    rw (c .close-month .ensures, c .before .prices .ensures, s .pre .1, eq-eqb (s .args .e .kind) 9 (c .before .before .if1 .taken))
-
-close-day-requires : tie.Need-close-day-requires
-close-day-requires c κs = let s : tie.Start = search in (s .pre .0 .0, s .pre .0 .1)
-
-returns-2 : tie.Need-returns-2
-unfolding closedAccount
-returns-2 c =
-    let s : tie.Start = search in
-    rw (c .close-day .ensures, s .pre .1, ne-eqb (s .args .e .kind) 9 (c .before .if1 .left))
+    ((s .pre .0 .0, s .pre .0 .1, s .pre .1), (s .pre .0 .2, rw (c .prices .ensures) (s .pre .0 .3 (search))))
 
 pub close-account-spec : {M : Type 1} → statement M
 close-account-spec =
-    tie.close (tie.spec (λ c κs. search needs) close-month-requires returns close-day-requires returns-2)
+    tie.close
+    (tie.spec (λ c κs. search needs) close-month-requires (λ c. search for-month) (λ c κs. search needs) (λ c. search for-day))

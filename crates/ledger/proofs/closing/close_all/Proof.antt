@@ -1,20 +1,23 @@
+-- One account after the other: what was closed so far and the accounts still to come together say what the rule says. An account that is not open changes nothing in either.
 use borrow.Author.Needs.{needs}
 use native.Mathlib.Omega.{arith}
 use mathlib.Core.Path.{_∙_, _≡_, ap, refl, sym}
 use mathlib.Core.Logic.{⊎-elim}
-use mathlib.Core.Bool.{_&&_, false, true}
-use Prim.Native.Nat.{ℕ, _-_, _<_, _≤_}
-use lib.ListN.{drop, getD, getD-replicate, length, replicate}
-use Rattle.ledger.proofs.Admitted.{is-begun, is-ranged, is-real, prices-fit}
+use mathlib.Core.Bool.{Bool, _&&_, false, true}
+use Prim.Native.Nat.{ℕ, _+_, _-_, _<_, _≤_}
+use lib.ListN.{drop, getD-replicate, length, replicate, set}
+use Rattle.ledger.proofs.Admitted.{is-begun, is-ranged, is-real, is-right}
 use Rattle.ledger.proofs.Bounded.{account-ranged, begun-ranged}
-use Rattle.ledger.proofs.Lists.{every-end, every-next, every-pass, filled, filled-end, filled-kept, filled-next, length-mapped}
+use Rattle.ledger.proofs.Lists.{every-end, every-next, every-pass, filled, filled-end, filled-kept, filled-next, length-mapped, withAccounts}
+use Rattle.ledger.proofs.RightEntries.{prices-fit}
 use Rattle.ledger.specs.Answers.{quiet}
 use Rattle.ledger.specs.Closing.{accountClosed, closed, closedAccount, complete, notOpen, reportOf, staysInRange}
 use Rattle.ledger.specs.Ranges.{accountInRange, everyAccount}
 use Rattle.ledger.specs.State.{accountAt, noMarks, noTotals, nobody}
+use Rattle.tariff.specs.Dates.{real}
 use Rattle.tariff.specs.Terms.{termsInRange}
-use Rattle.tariff.specs.declared.terms.Terms.{Terms}
 use mathlib.Core.List.{List}
+use Rattle.ledger.specs.declared.answers.Report.{Report}
 use Rattle.ledger.specs.declared.state.Ledger.{Ledger}
 use Rattle.ledger.specs.declared.state.Account.{Account}
 use Rattle.ledger.specs.declared.entries.Entry.{Entry}
@@ -22,144 +25,183 @@ use Rattle.ledger.specs.declared.closing.Closed.{Closed}
 use Rattle.ledger.proofs.closing.close_all.Statement.{statement}
 use Rattle.ledger.proofs.closing.close_all.Tie as tie
 
--- the ledger with other accounts, and nothing else changed
-abbrev withAccounts : Ledger → List Account → Ledger
-withAccounts l xs = record { begun = l .begun; touched = l .touched; date = l .date; terms = l .terms; accounts = xs }
+-- ---- what the loop carries, with i accounts behind it
+
+module _ (l : Ledger) (e : Entry) (i : ℕ) where
+  abbrev accountsTo : Ledger
+  accountsTo = withAccounts l (filled (accountClosed (l .terms) e) (l .accounts) (l .accounts) i)
+
+  abbrev reportsTo : List Report
+  reportsTo = filled (reportOf (l .terms) e) (l .accounts) (replicate 16 quiet) i
+
+abbrev Agrees : Ledger → ℕ → (Account → Bool) → Bool → Type 0
+Agrees l i p so-far = so-far && everyAccount p (drop i (l .accounts)) ≡ everyAccount p (l .accounts)
 
 abbrev Inv-loop : tie.InvT-loop
 Inv-loop e l date terms next₀ reports₀ all₀ fits₀ i₀ next reports all fits i =
     (i ≤ 16)
-    × (next ≡ withAccounts l (filled (accountClosed (l .terms) e) (l .accounts) (l .accounts) i))
-    × (reports ≡ filled (reportOf (l .terms) e) (l .accounts) (replicate 16 quiet) i)
-    × (all && everyAccount (complete (e .date)) (drop i (l .accounts)) ≡ everyAccount (complete (e .date)) (l .accounts))
-    × (fits && everyAccount (staysInRange (l .terms) e) (drop i (l .accounts)) ≡ everyAccount (staysInRange (l .terms) e) (l .accounts))
+    × (next ≡ accountsTo l e i)
+    × (reports ≡ reportsTo l e i)
+    × Agrees l i (complete (e .date)) all
+    × Agrees l i (staysInRange (l .terms) e) fits
 
 abbrev μ-loop : tie.MeasureT-loop
 μ-loop e l date terms next₀ reports₀ all₀ fits₀ i₀ next reports all fits i = 16 - i
 
--- an account that is not open stays as it is, and has nothing to report
+-- ---- one account further
 
-module _ (t : Terms) (e : Entry) (a : Account) (o : a .opened ≡ false) where
-  shut : closedAccount t e a ≡ notOpen a
-  unfolding closedAccount
-  shut = rw o
+module _ (l : Ledger) (e : Entry) (i : ℕ) (n : length (l .accounts) ≡ 16) (h : i < 16) where
+  -- an open account is closed
+  module _ (one : Closed) (p : one ≡ closedAccount (l .terms) e (accountAt l i)) where
+    open-stored : (next r : Ledger) → next ≡ accountsTo l e i → r ≡ withAccounts next (set (next .accounts) i (one .account)) → r ≡ accountsTo l e (i + 1)
+    unfolding accountAt accountClosed
+    open-stored next r v q = cc (filled-next (accountClosed (l .terms) e) (l .accounts) (l .accounts) i nobody refl (omega arith))
 
-  shut-kept : accountClosed t e a ≡ a
-  unfolding accountClosed notOpen
-  shut-kept = ap (λ (c : Closed). c .account) shut
+    open-reported : (reports r : List Report) → reports ≡ reportsTo l e i → r ≡ set reports i (one .report) → r ≡ reportsTo l e (i + 1)
+    unfolding accountAt reportOf
+    open-reported reports r v q = cc (filled-next (reportOf (l .terms) e) (l .accounts) (replicate 16 quiet) i nobody (omega arith) (omega arith))
 
-  shut-quiet : reportOf t e a ≡ quiet
-  unfolding reportOf notOpen
-  shut-quiet = ap (λ (c : Closed). c .report) shut
+    open-stays : (fits day end r : Bool) → Agrees l i (staysInRange (l .terms) e) fits → day ≡ accountInRange (one .day) → end ≡ accountInRange (one .account) → r ≡ fits && (day && end)
+        → Agrees l (i + 1) (staysInRange (l .terms) e) r
+    unfolding accountAt staysInRange
+    open-stays fits day end r v x y q = cc (every-next (staysInRange (l .terms) e) (l .accounts) i nobody fits (omega arith))
 
-  shut-complete : complete (e .date) a ≡ true
-  unfolding complete
-  shut-complete = rw o
+  open-complete : (all ready r : Bool) → Agrees l i (complete (e .date)) all → ready ≡ complete (e .date) (accountAt l i) → r ≡ all && ready → Agrees l (i + 1) (complete (e .date)) r
+  unfolding accountAt
+  open-complete all ready r v x q = cc (every-next (complete (e .date)) (l .accounts) i nobody all (omega arith))
 
-  shut-stays : accountInRange a ≡ true → staysInRange t e a ≡ true
-  unfolding staysInRange notOpen
-  shut-stays r = ap (λ (c : Closed). accountInRange (c .day) && accountInRange (c .account)) shut ∙ rw r
+  -- one that is not open stays as it is, and has nothing to report
+  module _ (o : accountAt l i .opened ≡ false) where
+    shut : closedAccount (l .terms) e (accountAt l i) ≡ notOpen (accountAt l i)
+    unfolding closedAccount
+    shut = rw o
 
-sixteen : (c : tie.Start Inv-loop μ-loop) → length (c .args .t1 .accounts) ≡ 16
-sixteen c = search (needs, length-mapped)
+    shut-stored : (next r : Ledger) → next ≡ accountsTo l e i → r ≡ next → r ≡ accountsTo l e (i + 1)
+    unfolding accountAt accountClosed notOpen
+    shut-stored next r v q =
+        q ∙ v ∙ ap (withAccounts l) (filled-kept (accountClosed (l .terms) e) (l .accounts) (l .accounts) i nobody nobody refl (omega arith) (ap (λ (c : Closed). c .account) shut))
 
-in-force : (s : tie.Start Inv-loop μ-loop) → termsInRange (s .args .t1 .terms) ≡ true
-in-force s =
-    begun-ranged (s .args .t1) (is-ranged (s .args .t1) (s .args .e) (s .pre .0))
-    (is-begun (s .args .t1) (s .args .e) (s .pre .0) (λ z. omega (arith, z, s .pre .1))) .1
+    shut-reported : (reports r : List Report) → reports ≡ reportsTo l e i → r ≡ reports → r ≡ reportsTo l e (i + 1)
+    unfolding accountAt reportOf notOpen
+    shut-reported reports r v q =
+        q
+        ∙ v
+        ∙ filled-kept (reportOf (l .terms) e) (l .accounts) (replicate 16 quiet) i nobody quiet (omega arith) (omega arith) (ap (λ (c : Closed). c .report) shut ∙ sym (getD-replicate 16 i quiet quiet h))
+
+    shut-complete : (all r : Bool) → Agrees l i (complete (e .date)) all → r ≡ all → Agrees l (i + 1) (complete (e .date)) r
+    unfolding accountAt complete
+    shut-complete all r v q = cc (every-pass (complete (e .date)) (l .accounts) i nobody all (omega arith) (rw o))
+
+    shut-stays : (fits r : Bool) → accountInRange (accountAt l i) ≡ true → Agrees l i (staysInRange (l .terms) e) fits → r ≡ fits → Agrees l (i + 1) (staysInRange (l .terms) e) r
+    unfolding accountAt staysInRange notOpen
+    shut-stays fits r x v q =
+        cc (every-pass (staysInRange (l .terms) e) (l .accounts) i nobody fits (omega arith) (ap (λ (c : Closed). accountInRange (c .day) && accountInRange (c .account)) shut ∙ rw x))
+
+-- ---- what holds of an admitted closing
+
+module _ (s : tie.Start Inv-loop μ-loop) where
+  sixteen : length (s .args .t1 .accounts) ≡ 16
+  sixteen = search (needs, length-mapped)
+
+  real-date : real (s .args .e .date) ≡ true
+  real-date = is-real (s .args .t1) (s .args .e) (s .pre .0)
+
+  in-force : termsInRange (s .args .t1 .terms) ≡ true
+  in-force =
+      begun-ranged (s .args .t1) (is-ranged (s .args .t1) (s .args .e) (s .pre .0))
+      (is-begun (s .args .t1) (s .args .e) (s .pre .0) (λ z. omega (arith, z, s .pre .1))) .1
+
+  ranged : (i : ℕ) → i < 16 → accountInRange (accountAt (s .args .t1) i) ≡ true
+  ranged i h = account-ranged (s .args .t1) i sixteen h (is-ranged (s .args .t1) (s .args .e) (s .pre .0))
 
 loop-holds : tie.Need-loop-holds Inv-loop μ-loop
 loop-holds c = (search needs, refl, rw (c .quiet .ensures), refl, refl)
 
-ranged : (r : tie.Start Inv-loop μ-loop) (i : ℕ) → i < 16 → accountInRange (accountAt (r .args .t1) i) ≡ true
-ranged r i h = account-ranged (r .args .t1) i (sixteen r) h (is-ranged (r .args .t1) (r .args .e) (r .pre .0))
-
 close-account-requires : tie.Need-close-account-requires Inv-loop μ-loop
 unfolding nobody noTotals noMarks accountAt
 close-account-requires c κs =
-    let r = c .before .before .before .before .before .before .before in (
-      (
-        is-real (r .args .t1) (r .args .e) (r .pre .0),
-        ranged r (c .before .before .before .loop .i) (omega arith),
-        in-force r,
-        prices-fit (r .args .t1) (r .args .e) (r .pre .0),
-      ),
-      c .if1 .taken,
-    )
-
-complete-requires : tie.Need-complete-requires Inv-loop μ-loop
-complete-requires c κs = let r : tie.Start Inv-loop μ-loop = search in is-real (r .args .t1) (r .args .e) (r .pre .0)
+    let s : tie.Start Inv-loop μ-loop = search in
+    let v : tie.At-loop Inv-loop μ-loop = search in
+    ((real-date s, ranged s (v .loop .i) (omega arith), in-force s, prices-fit (s .args .e) (is-right (s .args .t1) (s .args .e) (s .pre .0))), c .if1 .taken)
 
 loop-again : tie.Need-loop-again Inv-loop μ-loop
-unfolding nobody noTotals noMarks accountAt accountClosed reportOf staysInRange
+unfolding nobody noTotals noMarks accountAt
 loop-again c =
-    let v = c .before .before .before .loop in
-    let r = c .before .before .before .before .before .before .before in
-    let l = r .args .t1 in
-    let a = getD (l .accounts) (v .i) nobody in
-    let n : length (l .accounts) ≡ 16 = sixteen r in
-    let t = c .before .before .loop-test .taken in (
-      omega (arith, t),
-      ⊎-elim
-          (λ w. w .8 ∙ rw (v .inv .1, w .1 .ensures, filled-next (accountClosed (l .terms) (r .args .e)) (l .accounts) (l .accounts) (v .i) nobody (omega arith) (omega (arith, n, t))))
-          (λ w. w .1 ∙ v .inv .1 ∙ ap (withAccounts l) (filled-kept (accountClosed (l .terms) (r .args .e)) (l .accounts) (l .accounts) (v .i) nobody nobody (omega arith) (omega (arith, n, t)) (shut-kept (l .terms) (r .args .e) a (w .0 .left))))
-          (c .if1 .came),
-      ⊎-elim
-          (λ w. w .9 ∙ rw (v .inv .2, w .1 .ensures, filled-next (reportOf (l .terms) (r .args .e)) (l .accounts) (replicate 16 quiet) (v .i) nobody (omega (arith, n)) (omega (arith, n, t))))
-          (λ w. w .2 ∙ v .inv .2 ∙ filled-kept (reportOf (l .terms) (r .args .e)) (l .accounts) (replicate 16 quiet) (v .i) nobody quiet (omega (arith, n)) (omega (arith, n, t)) (shut-quiet (l .terms) (r .args .e) a (w .0 .left) ∙ sym (getD-replicate 16 (v .i) quiet quiet (omega (arith, t)))))
-          (c .if1 .came),
-      ⊎-elim
-          (λ w. rw (w .10, w .5 .ensures) (sym (every-next (complete (r .args .e .date)) (l .accounts) (v .i) nobody (v .all) (omega (arith, n, t))) ∙ v .inv .3))
-          (λ w. rw (w .3) (sym (every-pass (complete (r .args .e .date)) (l .accounts) (v .i) nobody (v .all) (omega (arith, n, t)) (shut-complete (l .terms) (r .args .e) a (w .0 .left))) ∙ v .inv .3))
-          (c .if1 .came),
-      ⊎-elim
-          (λ w. rw (w .11, w .7 .ensures, w .6 .ensures, w .1 .ensures) (sym (every-next (staysInRange (l .terms) (r .args .e)) (l .accounts) (v .i) nobody (v .fits) (omega (arith, n, t))) ∙ v .inv .4))
-          (λ w. rw (w .4) (sym (every-pass (staysInRange (l .terms) (r .args .e)) (l .accounts) (v .i) nobody (v .fits) (omega (arith, n, t)) (shut-stays (l .terms) (r .args .e) a (w .0 .left) (ranged r (v .i) (omega (arith, t))))) ∙ v .inv .4))
-          (c .if1 .came),
-    )
-
-day-after-requires : tie.Need-day-after-requires Inv-loop μ-loop
-day-after-requires c κs =
-    let r : tie.Start Inv-loop μ-loop = search in
-    is-real (r .args .t1) (r .args .e) (r .pre .0)
+    let s : tie.Start Inv-loop μ-loop = search in
+    let v : tie.At-loop Inv-loop μ-loop = search in
+    let n : length (s .args .t1 .accounts) ≡ 16 = sixteen s in
+    let h : v .loop .i < 16 = omega arith in
+    let f = ranged s (v .loop .i) h in
+    let stored = v .loop .inv .1 in
+    let reported = v .loop .inv .2 in
+    let all-so = v .loop .inv .3 in
+    let fits-so = v .loop .inv .4 in
+    let further : v .loop .i + 1 ≤ 16 = omega arith in
+    ⊎-elim
+    (λ w.
+    -- the parts of a branch have numbers only: what the calls ensured, and what the variables hold after it
+    let one = w .1 .ensures in
+    let ready = w .5 .ensures in
+    let day = w .6 .ensures in
+    let end = w .7 .ensures in
+    let next = w .8 in
+    let reports = w .9 in
+    let all = w .10 in
+    let fits = w .11 in
+    (further, search open-stored, search open-reported, search open-complete, search open-stays))
+    (λ w. (further, search shut-stored, search shut-reported, search shut-complete, search shut-stays))
+    (c .if1 .came)
 
 returns : tie.Need-returns Inv-loop μ-loop
 unfolding closed
 returns c =
-    let v = c .before .before .loop in
-    let r = c .before .before .before .before .before .before in
-    let l = r .args .t1 in
-    let n : length (l .accounts) ≡ 16 = sixteen r in (
+    let s : tie.Start Inv-loop μ-loop = search in
+    let v : tie.At-loop Inv-loop μ-loop = search in
+    let l = s .args .t1 in
+    let e = s .args .e in
+    let i = v .loop .i in
+    let n : length (l .accounts) ≡ 16 = sixteen s in (
       (
-        rw (v .inv .1, c .day-after .ensures, filled-end (accountClosed (l .terms) (r .args .e)) (l .accounts) (l .accounts) (v .i) (omega (arith, n)) (omega (arith, n))),
-        v .inv .2 ∙ filled-end (reportOf (l .terms) (r .args .e)) (l .accounts) (replicate 16 quiet) (v .i) (omega (arith, n)) (omega arith),
+        rw (v .loop .inv .1, c .day-after .ensures, filled-end (accountClosed (l .terms) e) (l .accounts) (l .accounts) i (omega (arith, n)) (omega (arith, n))),
+        v .loop .inv .2 ∙ filled-end (reportOf (l .terms) e) (l .accounts) (replicate 16 quiet) i (omega (arith, n)) (omega arith),
       ),
       (
-        sym (every-end (complete (r .args .e .date)) (l .accounts) (v .i) (v .all) (omega (arith, n))) ∙ v .inv .3,
-        sym (every-end (staysInRange (l .terms) (r .args .e)) (l .accounts) (v .i) (v .fits) (omega (arith, n))) ∙ v .inv .4,
+        sym (every-end (complete (e .date)) (l .accounts) i (v .loop .all) (omega (arith, n))) ∙ v .loop .inv .3,
+        sym (every-end (staysInRange (l .terms) e) (l .accounts) i (v .loop .fits) (omega (arith, n))) ∙ v .loop .inv .4,
       ),
     )
 
+complete-requires : tie.Need-complete-requires Inv-loop μ-loop
+complete-requires c κs = real-date (search)
+
+day-after-requires : tie.Need-day-after-requires Inv-loop μ-loop
+day-after-requires c κs = real-date (search)
+
+mul-a : tie.Need-mul-a Inv-loop μ-loop
+mul-a c = search needs
+
+element-copy-out-a : tie.Need-element-copy-out-a Inv-loop μ-loop
+element-copy-out-a c = search needs
+
+mul-account : tie.Need-mul-account Inv-loop μ-loop
+mul-account c = search needs
+
+element-set-from-account : tie.Need-element-set-from-account Inv-loop μ-loop
+element-set-from-account c = search needs
+
+mul-reports : tie.Need-mul-reports Inv-loop μ-loop
+mul-reports c = search needs
+
+array-set-from-reports : tie.Need-array-set-from-reports Inv-loop μ-loop
+array-set-from-reports c = search needs
+
+add-i : tie.Need-add-i Inv-loop μ-loop
+add-i c = search needs
+
+loop-less : tie.Need-loop-less Inv-loop μ-loop
+loop-less c = search needs
+
 pub close-all-spec : {M : Type 1} → statement M
-close-all-spec =
+close-all-spec {M = M} =
     tie.close
-    (tie.spec
-    Inv-loop
-    μ-loop
-    (λ c κs. search needs)
-    loop-holds
-    (λ c. search needs)
-    (λ c. search needs)
-    close-account-requires
-    complete-requires
-    (λ c κs. search needs)
-    (λ c κs. search needs)
-    (λ c. search needs)
-    (λ c. search needs)
-    (λ c. search needs)
-    (λ c. search needs)
-    (λ c. search needs)
-    (λ c. search needs)
-    loop-again
-    day-after-requires
-    returns)
+    (search (needs, tie.spec {M = M} Inv-loop μ-loop, loop-holds, mul-a, element-copy-out-a, close-account-requires, complete-requires, mul-account, element-set-from-account, mul-reports, array-set-from-reports, add-i, loop-less, loop-again, day-after-requires, returns))

@@ -1,3 +1,4 @@
+-- The three parts of a day's closing stand in the order of the rules: violations, then cash, then the account after both.
 use borrow.Author.Needs.{needs}
 use Rattle.ledger.specs.Closing.{closedDay, dayClosed}
 use Rattle.ledger.proofs.closing.close_day.Statement.{statement}
@@ -5,11 +6,10 @@ use Rattle.ledger.proofs.closing.close_day.Tie as tie
 
 returns : tie.Need-returns
 unfolding closedDay dayClosed
-returns c = rw (
-  c .day-end .ensures,
-  c .before .cash-at .ensures .0,
-  c .before .before .violations .ensures,
-)
+returns c =
+    let masked : tie.After-violations = search in
+    let cashed : tie.After-cash-at = search in
+    rw (c .day-end .ensures, cashed .cash-at .ensures .0, masked .violations .ensures)
 
 pub close-day-spec : {M : Type 1} → statement M
 close-day-spec = tie.close (tie.spec (λ c κs. search needs) (λ c κs. search needs) (λ c κs. search needs) returns)

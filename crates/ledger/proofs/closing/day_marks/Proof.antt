@@ -1,12 +1,9 @@
+-- The marks of a new day: only the excuse may stay, and it ends where the bank is back within its limit.
 use borrow.Author.Needs.{needs}
 use Rattle.ledger.specs.Closing.{dayMarks}
 use Rattle.ledger.proofs.closing.day_marks.Statement.{statement}
 use Rattle.ledger.proofs.closing.day_marks.Tie as tie
 
-returns : tie.Need-returns
-unfolding dayMarks
-returns c = rw
-    (c .before .before .ends-excuse .ensures)
-
 pub day-marks-spec : {M : Type 1} → statement M
-day-marks-spec = tie.close (tie.spec (λ c κs. search needs) returns)
+unfolding dayMarks
+day-marks-spec = tie.close (tie.spec (λ c κs. search needs) (λ c. cc))

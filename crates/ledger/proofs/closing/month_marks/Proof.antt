@@ -1,3 +1,4 @@
+-- A new month has no marks but the excuse, which is kept, and given where the step falls.
 use borrow.Author.Needs.{needs}
 use Rattle.ledger.specs.Closing.{monthMarks}
 use Rattle.ledger.specs.State.{noMarks}
@@ -6,10 +7,10 @@ use Rattle.ledger.proofs.closing.month_marks.Tie as tie
 
 returns : tie.Need-returns
 unfolding monthMarks noMarks
-returns c = rw (
-  c .before .no-marks .ensures,
-  c .before .before .falls .ensures,
-)
+returns c =
+    let f : tie.After-falls = search in
+    let m : tie.After-no-marks = search in
+    rw (m .no-marks .ensures, f .falls .ensures)
 
 pub month-marks-spec : {M : Type 1} → statement M
-month-marks-spec = tie.close (tie.spec (λ c κs. search needs) (λ c κs. search needs) returns)
+month-marks-spec = tie.close (search (needs, tie.spec, returns))

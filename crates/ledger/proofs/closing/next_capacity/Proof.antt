@@ -1,3 +1,4 @@
+-- A step settles to its pending step, which is at most 100, so the terms give it a capacity.
 use borrow.Author.Needs.{needs}
 use Rattle.ledger.specs.Closing.{nextCapacity}
 use Rattle.tariff.proofs.Laws.{settled-k}
@@ -11,7 +12,9 @@ capacity-requires c κs =
 
 returns : tie.Need-returns
 unfolding nextCapacity
-returns c = (rw (c .capacity .ensures .0, c .before .settled .ensures), c .capacity .ensures .1 .1)
+returns c =
+    let step : tie.After-settled = search in
+    (rw (c .capacity .ensures .0, step .settled .ensures), c .capacity .ensures .1 .1)
 
 pub next-capacity-spec : {M : Type 1} → statement M
 next-capacity-spec = tie.close (tie.spec (λ c κs. search needs) capacity-requires returns)

@@ -1,51 +1,49 @@
+-- The account is in range, so each of the tests may be asked; the mask is made of their answers in the order of the rules.
 use borrow.Author.Needs.{needs}
+use Prim.Native.Nat.{ℕ}
+use mathlib.Core.Bool.{Bool}
+use mathlib.Core.Path.{_≡_}
 use native.Mathlib.Omega.{arith}
-use Rattle.ledger.proofs.Bounded.{bounded}
-use Rattle.ledger.specs.Closing.{violationsOf}
+use Rattle.tariff.specs.Closing.{breaksV3, breaksV4, breaksV5, breaksV6, breaksV7, breaksV8, maskOf}
+use Rattle.tariff.specs.declared.amounts.Quantity.{Quantity}
+use Rattle.tariff.specs.declared.dates.Date.{Date}
+use Rattle.ledger.proofs.Bounded.{Bounded, bounded}
+use Rattle.ledger.specs.Closing.{limitOf, violationsOf}
+use Rattle.ledger.specs.declared.state.Account.{Account}
 use Rattle.ledger.proofs.closing.violations.Statement.{statement}
 use Rattle.ledger.proofs.closing.violations.Tie as tie
 
+known : (s : tie.Start) → Bounded (s .args .a)
+known s = bounded (s .args .a) (s .pre .1)
+
+masked : (d : Date) (a : Account) (limit : Quantity) (v3 v4 v5 v6 v7 v8 : Bool) (mask : ℕ)
+    → limit ≡ limitOf d a → v3 ≡ breaksV3 (d .month) (a .capacity .bcq) (a .month .net)
+    → v4 ≡ breaksV4 (d .month) limit (a .month .net) → v5 ≡ breaksV5 d (a .capacity .bcq) (a .month .net)
+    → v6 ≡ breaksV6 d (a .capacity .bcq) (a .bank) → v7 ≡ breaksV7 (a .bank) → v8 ≡ breaksV8 (a .marks .excused) (a .capacity .bcq) (a .bank)
+    → mask ≡ maskOf (a .marks .v1) (a .marks .v2) v3 v4 v5 v6 v7 v8 → mask ≡ violationsOf d a
+unfolding violationsOf
+masked d a limit v3 v4 v5 v6 v7 v8 mask l p3 p4 p5 p6 p7 p8 m = cc
+
 limit-requires : tie.Need-limit-requires
-limit-requires c κs = let s : tie.Start = search in let b = bounded (s .args .a) (s .pre .1) in b .bcq
+limit-requires c κs = known (search) .bcq
 
 breaks-v3-requires : tie.Need-breaks-v3-requires
-breaks-v3-requires c κs = let s : tie.Start = search in let b = bounded (s .args .a) (s .pre .1) in b .bcq
+breaks-v3-requires c κs = known (search) .bcq
 
 breaks-v4-requires : tie.Need-breaks-v4-requires
-breaks-v4-requires c κs = let s : tie.Start = search in let b = bounded (s .args .a) (s .pre .1) in omega (arith, c .before .limit .ensures .1, b .month .net)
+breaks-v4-requires c κs = omega (arith, known (search))
 
 breaks-v5-requires : tie.Need-breaks-v5-requires
-breaks-v5-requires c κs = let s : tie.Start = search in let b = bounded (s .args .a) (s .pre .1) in (s .pre .0, b .bcq, b .month .net)
+breaks-v5-requires c κs = search (known (search))
 
 breaks-v6-requires : tie.Need-breaks-v6-requires
-breaks-v6-requires c κs = let s : tie.Start = search in let b = bounded (s .args .a) (s .pre .1) in b .bcq
+breaks-v6-requires c κs = known (search) .bcq
 
 breaks-v8-requires : tie.Need-breaks-v8-requires
-breaks-v8-requires c κs = let s : tie.Start = search in let b = bounded (s .args .a) (s .pre .1) in b .bcq
+breaks-v8-requires c κs = known (search) .bcq
 
 returns : tie.Need-returns
-unfolding violationsOf
-returns c = rw (
-  c .mask .ensures .0,
-  c .before .breaks-v8 .ensures,
-  c .before .before .breaks-v7 .ensures,
-  c .before .before .before .breaks-v6 .ensures,
-  c .before .before .before .before .breaks-v5 .ensures,
-  c .before .before .before .before .before .breaks-v4 .ensures,
-  c .before .before .before .before .before .before .breaks-v3 .ensures,
-  c .before .before .before .before .before .before .before .limit .ensures .0,
-)
+returns c = search masked
 
 pub violations-spec : {M : Type 1} → statement M
-violations-spec =
-    tie.close
-    (tie.spec
-    limit-requires
-    breaks-v3-requires
-    breaks-v4-requires
-    breaks-v5-requires
-    breaks-v6-requires
-    (λ c κs. search needs)
-    breaks-v8-requires
-    (λ c κs. search needs)
-    returns)
+violations-spec = tie.close (search (needs, tie.spec, limit-requires, breaks-v3-requires, breaks-v4-requires, breaks-v5-requires, breaks-v6-requires, breaks-v8-requires, returns))

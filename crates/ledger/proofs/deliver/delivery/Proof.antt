@@ -1,10 +1,28 @@
+-- The words of an entry right in itself and the retainage of terms in range keep the amount small; the checks then stand in ascending order.
 use borrow.Author.Needs.{needs}
+use Prim.Native.Nat.{ℕ}
+use mathlib.Core.Bool.{Bool, cond, not}
+use mathlib.Core.Path.{_≡_}
+use Rattle.tariff.proofs.Ranges.{terms-bounds}
+use Rattle.tariff.specs.Delivery.{retained}
+use Rattle.tariff.specs.declared.amounts.Units.{Units}
+use Rattle.tariff.specs.declared.terms.Terms.{Terms}
 use Rattle.ledger.proofs.RightEntries.{deliver-fits}
 use Rattle.ledger.specs.Checks.{verdict}
-use Rattle.ledger.specs.Deliver.{afterDelivery, amountUnder, deliverChecks, delivery}
-use Rattle.tariff.proofs.Ranges.{terms-bounds}
+use Rattle.ledger.specs.Deliver.{afterDelivery, amountUnder, deliverChecks, delivered, delivery}
+use Rattle.ledger.specs.Ranges.{accountInRange}
+use Rattle.ledger.specs.declared.entries.Entry.{Entry}
+use Rattle.ledger.specs.declared.state.Account.{Account}
 use Rattle.ledger.proofs.deliver.delivery.Statement.{statement}
 use Rattle.ledger.proofs.deliver.delivery.Tie as tie
+
+judged : (t : Terms) (a b : Account) (e : Entry) (amount : Units) (fits : Bool) (n₁ n₂ n₃ : ℕ)
+    → amount ≡ retained (t .retainage) (record { 0 = e .w1 }) (record { 0 = e .w2 })
+    → b ≡ delivered (e .date .month) a amount (record { 0 = e .w2 })
+    → fits ≡ accountInRange b → n₁ ≡ cond (not fits) 29 0 → n₂ ≡ cond (a .marks .delivered) 26 n₁ → n₃ ≡ cond (not (a .opened)) 24 n₂
+    → record { number = n₃; account = b } ≡ delivery t a e
+unfolding delivery deliverChecks afterDelivery amountUnder verdict
+judged t a b e amount fits n₁ n₂ n₃ p q r q₁ q₂ q₃ = cc
 
 retained-requires : tie.Need-retained-requires
 retained-requires c κs =
@@ -12,28 +30,11 @@ retained-requires c κs =
     let w = deliver-fits (s .args .e) (s .pre .0) (s .pre .1) in
     (terms-bounds (s .args .t) (s .pre .3) .retainage, w .0, w .1)
 
-delivered-requires : tie.Need-delivered-requires
-delivered-requires c κs = (c .before .before .before .pre .2, c .retained .ensures .1)
-
 returns : tie.Need-returns
-unfolding delivery deliverChecks afterDelivery amountUnder verdict
-returns c = rw (
-  c .refuse3 .ensures,
-  c .before .refuse2 .ensures,
-  c .before .before .refuse .ensures,
-  c .before .before .before .before .account-in-range .ensures,
-  c .before .before .before .before .before .delivered .ensures,
-  c .before .before .before .before .before .before .retained .ensures .0,
-)
+returns c = search judged
+
+delivered-requires : tie.Need-delivered-requires
+delivered-requires c κs = search needs
 
 pub delivery-spec : {M : Type 1} → statement M
-delivery-spec =
-    tie.close
-    (tie.spec
-    retained-requires
-    delivered-requires
-    (λ c κs. search needs)
-    (λ c κs. search needs)
-    (λ c κs. search needs)
-    (λ c κs. search needs)
-    returns)
+delivery-spec = tie.close (search (needs, tie.spec, delivered-requires, retained-requires, returns))

@@ -1,9 +1,30 @@
+-- An entry right in itself has a demand and an opening bank within range, which is all that a new account asks; the checks then stand in ascending order.
 use borrow.Author.Needs.{needs}
+use Prim.Native.Nat.{ℕ}
+use mathlib.Core.Bool.{Bool, cond, not}
+use mathlib.Core.Path.{_≡_}
+use Rattle.tariff.specs.Dates.{firstOfGasYear}
+use Rattle.tariff.specs.Enrol.{openingTooHigh, staysOnFbs}
+use Rattle.tariff.specs.declared.terms.Terms.{Terms}
 use Rattle.ledger.proofs.RightEntries.{enrol-fits}
 use Rattle.ledger.specs.Checks.{verdict}
-use Rattle.ledger.specs.Enrol.{enrolChecks, enrolled, enrolment}
+use Rattle.ledger.specs.Enrol.{enrolChecks, enrolled, enrolment, newAccount}
+use Rattle.ledger.specs.Entries.{processOnly, wishes}
+use Rattle.ledger.specs.Ranges.{accountInRange}
+use Rattle.ledger.specs.declared.entries.Entry.{Entry}
+use Rattle.ledger.specs.declared.state.Account.{Account}
 use Rattle.ledger.proofs.enrol.enrolment.Statement.{statement}
 use Rattle.ledger.proofs.enrol.enrolment.Tie as tie
+
+judged : (t : Terms) (a b : Account) (e : Entry) (first only wants stays above fits : Bool) (n₁ n₂ n₃ n₄ n₅ : ℕ)
+    → b ≡ newAccount t (record { 0 = e .w1 }) (record { 0 = e .w2 })
+    → first ≡ firstOfGasYear (e .date) → only ≡ processOnly e → wants ≡ wishes e
+    → stays ≡ staysOnFbs only wants (record { 0 = e .w1 }) → above ≡ openingTooHigh (record { 0 = e .w2 }) (b .capacity .bcq)
+    → fits ≡ accountInRange b → n₁ ≡ cond (not fits) 29 0
+    → n₂ ≡ cond above 28 n₁ → n₃ ≡ cond stays 25 n₂ → n₄ ≡ cond (a .opened) 24 n₃ → n₅ ≡ cond (not first) 23 n₄
+    → record { number = n₅; account = b } ≡ enrolment t a e
+unfolding enrolment enrolChecks enrolled verdict
+judged t a b e first only wants stays above fits n₁ n₂ n₃ n₄ n₅ p f o w s h r q₁ q₂ q₃ q₄ q₅ = cc
 
 new-account-requires : tie.Need-new-account-requires
 new-account-requires c κs =
@@ -12,36 +33,10 @@ new-account-requires c κs =
     (s .pre .3, w .0, w .1)
 
 returns : tie.Need-returns
-unfolding enrolment enrolChecks enrolled verdict
-returns c = rw (
-  c .refuse5 .ensures,
-  c .before .refuse4 .ensures,
-  c .before .before .refuse3 .ensures,
-  c .before .before .before .refuse2 .ensures,
-  c .before .before .before .before .refuse .ensures,
-  c .before .before .before .before .before .account-in-range .ensures,
-  c .before .before .before .before .before .before .opening-too-high .ensures,
-  c .before .before .before .before .before .before .before .stays-on-fbs .ensures,
-  c .before .before .before .before .before .before .before .before .wishes .ensures,
-  c .before .before .before .before .before .before .before .before .before .process-only .ensures,
-  c .before .before .before .before .before .before .before .before .before .before .first-of-gas-year .ensures,
-  c .before .before .before .before .before .before .before .before .before .before .before .before .new-account .ensures .0,
-)
+returns c = search judged
+
+opening-too-high-requires : tie.Need-opening-too-high-requires
+opening-too-high-requires c κs = search needs
 
 pub enrolment-spec : {M : Type 1} → statement M
-enrolment-spec =
-    tie.close
-    (tie.spec
-    new-account-requires
-    (λ c κs. search needs)
-    (λ c κs. search needs)
-    (λ c κs. search needs)
-    (λ c κs. search needs)
-    (λ c κs. search needs)
-    (λ c κs. search needs)
-    (λ c κs. search needs)
-    (λ c κs. search needs)
-    (λ c κs. search needs)
-    (λ c κs. search needs)
-    (λ c κs. search needs)
-    returns)
+enrolment-spec = tie.close (search (needs, tie.spec, opening-too-high-requires, new-account-requires, returns))

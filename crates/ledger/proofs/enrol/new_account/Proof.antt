@@ -1,3 +1,4 @@
+-- A first step is at most 100, so its capacity is defined; all else of a new account is zero.
 use borrow.Author.Needs.{needs}
 use Rattle.ledger.specs.Enrol.{newAccount}
 use Rattle.ledger.proofs.enrol.new_account.Statement.{statement}
@@ -5,24 +6,23 @@ use Rattle.ledger.proofs.enrol.new_account.Tie as tie
 
 returns : tie.Need-returns
 unfolding newAccount
-returns c = (
-  rw (
-    c .of .ensures,
-    c .before .no-marks .ensures,
-    c .before .before .no-totals .ensures,
-    c .before .before .before .capacity .ensures .0,
-    c .before .before .before .before .first .ensures .0,
-  ),
-  c .before .before .before .capacity .ensures .1 .1,
-)
+returns c =
+    let step : tie.After-first = search in
+    let capacity : tie.After-capacity = search in
+    let totals : tie.After-no-totals = search in
+    let marks : tie.After-no-marks = search in (
+      rw (c .of .ensures, marks .no-marks .ensures, totals .no-totals .ensures, capacity .capacity .ensures .0, step .first .ensures .0),
+      search needs,
+    )
+
+first-requires : tie.Need-first-requires
+first-requires c κs = search needs
+
+capacity-requires : tie.Need-capacity-requires
+capacity-requires c κs = search needs
+
+of-requires : tie.Need-of-requires
+of-requires c κs = search needs
 
 pub new-account-spec : {M : Type 1} → statement M
-new-account-spec =
-    tie.close
-    (tie.spec
-    (λ c κs. search needs)
-    (λ c κs. search needs)
-    (λ c κs. search needs)
-    (λ c κs. search needs)
-    (λ c κs. search needs)
-    returns)
+new-account-spec = tie.close (search (needs, tie.spec, first-requires, capacity-requires, of-requires, returns))

@@ -1,3 +1,4 @@
+-- Bytes 4 to 7 are the date, the year's low byte first; a year of two bytes cannot leave its type.
 use borrow.Author.Needs.{needs}
 use Rattle.ledger.specs.Entries.{entryOf}
 use Rattle.ledger.proofs.entries.date.Statement.{statement}
@@ -5,12 +6,7 @@ use Rattle.ledger.proofs.entries.date.Tie as tie
 
 returns : tie.Need-returns
 unfolding entryOf
-returns c = rw (
-  c .byte4 .ensures .0,
-  c .before .byte3 .ensures .0,
-  c .before .before .byte2 .ensures .0,
-  c .before .before .before .byte .ensures .0,
-)
+returns c = cc
 
 pub date-spec : {M : Type 1} → statement M
 date-spec =

@@ -1,3 +1,4 @@
+-- Each field is read from its own bytes, all of which the entry's 32 hold.
 use borrow.Author.Needs.{needs}
 use Rattle.ledger.specs.Entries.{entryOf}
 use Rattle.ledger.proofs.entries.decode.Statement.{statement}
@@ -5,19 +6,7 @@ use Rattle.ledger.proofs.entries.decode.Tie as tie
 
 returns : tie.Need-returns
 unfolding entryOf
-returns c = rw (
-  c .word6 .ensures,
-  c .before .word5 .ensures,
-  c .before .before .word4 .ensures,
-  c .before .before .before .word3 .ensures,
-  c .before .before .before .before .word2 .ensures,
-  c .before .before .before .before .before .word .ensures,
-  c .before .before .before .before .before .before .date .ensures,
-  c .before .before .before .before .before .before .before .byte4 .ensures .0,
-  c .before .before .before .before .before .before .before .before .byte3 .ensures .0,
-  c .before .before .before .before .before .before .before .before .before .byte2 .ensures .0,
-  c .before .before .before .before .before .before .before .before .before .before .byte .ensures .0,
-)
+returns c = cc
 
 pub decode-spec : {M : Type 1} → statement M
 decode-spec =

@@ -1,3 +1,4 @@
+-- Four bytes, the low one first; each is below 256, so no product or sum on the way leaves its type.
 use borrow.Author.Needs.{needs}
 use Rattle.ledger.specs.Entries.{wordAt}
 use Rattle.ledger.proofs.entries.word.Statement.{statement}
@@ -5,12 +6,7 @@ use Rattle.ledger.proofs.entries.word.Tie as tie
 
 returns : tie.Need-returns
 unfolding wordAt
-returns c = rw (
-  c .byte4 .ensures .0,
-  c .before .byte3 .ensures .0,
-  c .before .before .byte2 .ensures .0,
-  c .before .before .before .byte .ensures .0,
-)
+returns c = cc
 
 pub word-spec : {M : Type 1} → statement M
 word-spec =

@@ -1,37 +1,33 @@
+-- An entry right in itself has a real date and a demand within range, which is all that a measurement asks; the checks then stand in ascending order.
 use borrow.Author.Needs.{needs}
+use Prim.Native.Nat.{ℕ}
+use mathlib.Core.Bool.{Bool, cond, not}
+use mathlib.Core.Path.{_≡_}
+use Rattle.tariff.specs.Dates.{onMeasurementDay}
 use Rattle.ledger.proofs.RightEntries.{is-real, measure-fits}
 use Rattle.ledger.specs.Checks.{verdict}
-use Rattle.ledger.specs.Measure.{afterMeasure, measureChecks, measurement}
+use Rattle.ledger.specs.Measure.{afterMeasure, measureChecks, measurement, remeasured}
+use Rattle.ledger.specs.Ranges.{accountInRange}
+use Rattle.ledger.specs.declared.entries.Entry.{Entry}
+use Rattle.ledger.specs.declared.state.Account.{Account}
 use Rattle.ledger.proofs.measure.measurement.Statement.{statement}
 use Rattle.ledger.proofs.measure.measurement.Tie as tie
 
+judged : (a b : Account) (e : Entry) (day fits : Bool) (n₁ n₂ n₃ n₄ : ℕ)
+    → day ≡ onMeasurementDay (e .date) → b ≡ remeasured a (record { 0 = e .w1 })
+    → fits ≡ accountInRange b → n₁ ≡ cond (not fits) 29 0 → n₂ ≡ cond (a .marks .measured) 26 n₁ → n₃ ≡ cond (not (a .opened)) 24 n₂ → n₄ ≡ cond (not day) 23 n₃
+    → record { number = n₄; account = b } ≡ measurement a e
+unfolding measurement measureChecks afterMeasure verdict
+judged a b e day fits n₁ n₂ n₃ n₄ d p r q₁ q₂ q₃ q₄ = cc
+
 on-measurement-day-requires : tie.Need-on-measurement-day-requires
-on-measurement-day-requires c κs = let s : tie.Start = search in is-real (s .args .e) (s .pre .0)
+on-measurement-day-requires c κs = search (needs, is-real)
 
 remeasured-requires : tie.Need-remeasured-requires
-remeasured-requires c κs = let s : tie.Start = search in (s .pre .2, measure-fits (s .args .e) (s .pre .0) (s .pre .1))
+remeasured-requires c κs = search (needs, measure-fits)
 
 returns : tie.Need-returns
-unfolding measurement measureChecks afterMeasure verdict
-returns c = rw (
-  c .refuse4 .ensures,
-  c .before .refuse3 .ensures,
-  c .before .before .refuse2 .ensures,
-  c .before .before .before .refuse .ensures,
-  c .before .before .before .before .before .account-in-range .ensures,
-  c .before .before .before .before .before .before .remeasured .ensures,
-  c .before .before .before .before .before .before .before .on-measurement-day .ensures,
-)
+returns c = search judged
 
 pub measurement-spec : {M : Type 1} → statement M
-measurement-spec =
-    tie.close
-    (tie.spec
-    on-measurement-day-requires
-    remeasured-requires
-    (λ c κs. search needs)
-    (λ c κs. search needs)
-    (λ c κs. search needs)
-    (λ c κs. search needs)
-    (λ c κs. search needs)
-    returns)
+measurement-spec = tie.close (search (needs, tie.spec, on-measurement-day-requires, remeasured-requires, returns))

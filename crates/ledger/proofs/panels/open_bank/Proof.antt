@@ -1,3 +1,4 @@
+-- The bank of an open account, and nothing of one that is not; neither is larger than the bank.
 use borrow.Author.Needs.{needs}
 use native.Mathlib.Omega.{arith}
 use Rattle.ledger.specs.Panel.{openBank}
@@ -12,7 +13,9 @@ returns c = (rw (c .if1 .taken), omega arith)
 
 returns-2 : tie.Need-returns-2
 unfolding openBank
-returns-2 c = (rw (c .nothing .ensures, nothing-value, c .before .if1 .left), rw (c .nothing .ensures) (omega (arith, size-nothing)))
+returns-2 c =
+    let shut : tie.Else1 = search in
+    (rw (c .nothing .ensures, nothing-value, shut .if1 .left), rw (c .nothing .ensures) (omega (arith, size-nothing)))
 
 pub open-bank-spec : {M : Type 1} → statement M
-open-bank-spec = tie.close (tie.spec returns (λ c κs. search needs) returns-2)
+open-bank-spec = tie.close (search (needs, tie.spec, returns, returns-2))

@@ -1,3 +1,4 @@
+-- One account after the other: the figure so far and the banks still to come are the whole sum; each bank is in range, so the figure stays small.
 use borrow.Author.Needs.{needs}
 use native.Mathlib.Omega.{arith}
 use mathlib.Core.Path.{_∙_, _≡_, sym}
@@ -24,38 +25,38 @@ Inv-loop l figure₀ i₀ figure i =
 abbrev μ-loop : tie.MeasureT-loop
 μ-loop l figure₀ i₀ figure i = 16 - i
 
-sixteen : (c : tie.Start Inv-loop μ-loop) → length (c .args .t1 .accounts) ≡ 16
-sixteen c = search (needs, length-mapped)
+sixteen : (s : tie.Start Inv-loop μ-loop) → length (s .args .t1 .accounts) ≡ 16
+sixteen s = search (needs, length-mapped)
 
 one-bank : (c : tie.After-open-bank Inv-loop μ-loop) → size (c .open-bank .result) ≤ 100000000000
 unfolding nobody noTotals noMarks accountAt
 one-bank c =
-    let s = c .before .before .before in
-    let r = s .before .before in
-    omega (arith, c .open-bank .ensures .1, bounded (accountAt (r .args .t1) (s .loop .i)) (account-ranged (r .args .t1) (s .loop .i) (sixteen r) (omega arith) (r .pre)) .bank)
+    let s : tie.Start Inv-loop μ-loop = search in
+    let v : tie.At-loop Inv-loop μ-loop = search in
+    omega (arith, c .open-bank .ensures .1, bounded (accountAt (s .args .t1) (v .loop .i)) (account-ranged (s .args .t1) (v .loop .i) (sixteen s) (omega arith) (s .pre)) .bank)
 
 loop-holds : tie.Need-loop-holds Inv-loop μ-loop
-loop-holds c = (search needs, rw (c .nothing .ensures, nothing-value) (+ℤ-idl (openBanks (c .before .args .t1 .accounts))), rw (c .nothing .ensures) (omega (arith, size-nothing)))
-
-plus-requires : tie.Need-plus-requires Inv-loop μ-loop
-plus-requires c κs = omega (arith, one-bank c, c .before .before .before .loop .inv .2)
+loop-holds c =
+    let s : tie.Start Inv-loop μ-loop = search in
+    (search needs, rw (c .nothing .ensures, nothing-value) (+ℤ-idl (openBanks (s .args .t1 .accounts))), rw (c .nothing .ensures) (omega (arith, size-nothing)))
 
 loop-again : tie.Need-loop-again Inv-loop μ-loop
 unfolding nobody noTotals noMarks
 loop-again c =
-    let s = c .before .before .before .before in
-    let l = s .before .before .args .t1 .accounts in (
+    let s : tie.Start Inv-loop μ-loop = search in
+    let v : tie.At-loop Inv-loop μ-loop = search in
+    let b : tie.After-open-bank Inv-loop μ-loop = search in (
       omega arith,
-      rw (c .plus .ensures .0, sum-value (s .loop .figure) (c .before .open-bank .result), c .before .open-bank .ensures .0)
-          (sym (banks-next l (s .loop .i) nobody (s .loop .figure .0) (omega (arith, sixteen (s .before .before)))) ∙ s .loop .inv .1),
-      omega (arith, c .plus .ensures .1, one-bank (c .before), s .loop .inv .2),
+      rw (c .plus .ensures .0, sum-value (v .loop .figure) (b .open-bank .result), b .open-bank .ensures .0)
+          (sym (banks-next (s .args .t1 .accounts) (v .loop .i) nobody (v .loop .figure .0) (omega (arith, sixteen s))) ∙ v .loop .inv .1),
+      omega (arith, one-bank b),
     )
 
 returns : tie.Need-returns Inv-loop μ-loop
 returns c =
-    let s = c .before in
-    let l = s .before .before .args .t1 .accounts in
-    sym (banks-end l (s .loop .i) (s .loop .figure .0) (omega (arith, sixteen (s .before .before)))) ∙ s .loop .inv .1
+    let s : tie.Start Inv-loop μ-loop = search in
+    let v : tie.At-loop Inv-loop μ-loop = search in
+    sym (banks-end (s .args .t1 .accounts) (v .loop .i) (v .loop .figure .0) (omega (arith, sixteen s))) ∙ v .loop .inv .1
 
 pub open-banks-spec : {M : Type 1} → statement M
 open-banks-spec =
@@ -68,7 +69,7 @@ open-banks-spec =
     (λ c. search needs)
     (λ c. search needs)
     (λ c κs. search needs)
-    plus-requires
+    (λ c κs. omega (arith, one-bank (search)))
     (λ c. search needs)
     (λ c. search needs)
     loop-again

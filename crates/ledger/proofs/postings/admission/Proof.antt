@@ -1,32 +1,36 @@
+-- An entry wrong in itself is refused for that, without a look at the ledger; else the ledger's three checks decide, in ascending order.
 use borrow.Author.Needs.{needs}
-use mathlib.Core.Path.{_∙_, sym}
+use Prim.Native.Nat.{ℕ}
+use mathlib.Core.Bool.{Bool, _&&_, cond, not}
+use mathlib.Core.List.{_++_}
+use mathlib.Core.Path.{_∙_, _≡_, sym}
+use lib.Dec.{eqb}
 use Rattle.ledger.proofs.Admitted.{admission-own, admission-standing}
+use Rattle.tariff.specs.Dates.{sameDate}
+use Rattle.tariff.specs.declared.dates.Date.{Date}
 use Rattle.ledger.specs.Checks.{verdict}
+use Rattle.ledger.specs.Entries.{entryChecks, entryNumber}
 use Rattle.ledger.specs.Posting.{standingChecks}
+use Rattle.ledger.specs.declared.entries.Entry.{Entry}
 use Rattle.ledger.proofs.postings.admission.Statement.{statement}
 use Rattle.ledger.proofs.postings.admission.Tie as tie
 
+module _ (fits begun : Bool) (today : Date) (e : Entry) (n : ℕ) (p : n ≡ entryNumber e) where
+  wrong : (n ≡ 0 → ⊥) → n ≡ verdict (entryChecks e ++ standingChecks fits begun today e)
+  wrong d = rw p (sym (admission-own fits begun today e (rw p at d)))
+
+  judged : n ≡ 0 → (same : Bool) (n₁ n₂ n₃ : ℕ)
+      → same ≡ sameDate (e .date) today → n₁ ≡ cond (begun && not same) 22 0
+      → n₂ ≡ cond (not begun && not (eqb (e .kind) 1)) 21 n₁ → n₃ ≡ cond (not fits) 20 n₂
+      → n₃ ≡ verdict (entryChecks e ++ standingChecks fits begun today e)
+  unfolding standingChecks verdict
+  judged z same n₁ n₂ n₃ d q₁ q₂ q₃ = cc (admission-standing fits begun today e (sym p ∙ z))
+
 returns : tie.Need-returns
-returns c =
-    let s : tie.Start = search in
-    rw (c .before .number .ensures)
-    (sym (admission-own (s .args .fits) (s .args .begun) (s .args .today) (s .args .e) (λ z. c .if1 .taken (c .before .number .ensures ∙ z))))
+returns c = search wrong
 
 returns-2 : tie.Need-returns-2
-unfolding standingChecks verdict
-returns-2 c =
-    let s : tie.Start = search in
-    rw (c .refuse3 .ensures, c .before .refuse2 .ensures, c .before .before .refuse .ensures, c .before .before .before .same .ensures)
-    (sym (admission-standing (s .args .fits) (s .args .begun) (s .args .today) (s .args .e) (sym (c .before .before .before .before .before .before .number .ensures) ∙ c .before .before .before .before .before .if1 .left)))
+returns-2 c = search judged
 
 pub admission-spec : {M : Type 1} → statement M
-admission-spec =
-    tie.close
-    (tie.spec
-    (λ c κs. search needs)
-    returns
-    (λ c κs. search needs)
-    (λ c κs. search needs)
-    (λ c κs. search needs)
-    (λ c κs. search needs)
-    returns-2)
+admission-spec = tie.close (search (needs, tie.spec, returns, returns-2))

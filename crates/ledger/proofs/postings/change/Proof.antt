@@ -1,34 +1,20 @@
+-- Each kind has its own rule, and the last arm is USAGE's, since no other kind of one account is left.
 use borrow.Author.Needs.{needs}
 use borrow.Author.Tests.{ne-eqb}
-use mathlib.Core.Path.{_∙_, sym}
+use mathlib.Core.Path.{_≡_}
+use Rattle.tariff.specs.declared.terms.Terms.{Terms}
 use Rattle.ledger.proofs.KindCases.{change-at}
 use Rattle.ledger.specs.Posting.{changeOf}
+use Rattle.ledger.specs.Usage.{usage}
+use Rattle.ledger.specs.declared.answers.Change.{Change}
+use Rattle.ledger.specs.declared.entries.Entry.{Entry}
+use Rattle.ledger.specs.declared.state.Account.{Account}
 use Rattle.ledger.proofs.postings.change.Statement.{statement}
 use Rattle.ledger.proofs.postings.change.Tie as tie
 
-returns : tie.Need-returns
-returns c = let s : tie.Start = search in c .enrolment .ensures ∙ sym (change-at (s .args .t) (s .args .a) (s .args .e) 2 (c .before .match .keys1))
-
-returns-2 : tie.Need-returns-2
-returns-2 c = let s : tie.Start = search in c .delivery .ensures ∙ sym (change-at (s .args .t) (s .args .a) (s .args .e) 3 (c .before .match .keys2))
-
-returns-3 : tie.Need-returns-3
-returns-3 c = let s : tie.Start = search in c .trade .ensures ∙ sym (change-at (s .args .t) (s .args .a) (s .args .e) 5 (c .before .match .keys3))
-
-returns-4 : tie.Need-returns-4
-returns-4 c = let s : tie.Start = search in c .measurement .ensures ∙ sym (change-at (s .args .t) (s .args .a) (s .args .e) 6 (c .before .match .keys4))
-
-returns-5 : tie.Need-returns-5
+at-usage : (t : Terms) (a : Account) (e : Entry) (r : Change) → (e .kind ≡ 2 → ⊥) → (e .kind ≡ 3 → ⊥) → (e .kind ≡ 5 → ⊥) → (e .kind ≡ 6 → ⊥) → r ≡ usage a e → r ≡ changeOf t a e
 unfolding changeOf
-returns-5 c =
-    let s : tie.Start = search in
-    rw (
-      c .usage .ensures,
-      ne-eqb (s .args .e .kind) 2 (c .before .match .rest .0 .0 .0 .1),
-      ne-eqb (s .args .e .kind) 3 (c .before .match .rest .0 .0 .1),
-      ne-eqb (s .args .e .kind) 5 (c .before .match .rest .0 .1),
-      ne-eqb (s .args .e .kind) 6 (c .before .match .rest .1),
-    )
+at-usage t a e r d2 d3 d5 d6 p = rw (ne-eqb (e .kind) 2 d2, ne-eqb (e .kind) 3 d3, ne-eqb (e .kind) 5 d5, ne-eqb (e .kind) 6 d6) p
 
 pub change-spec : {M : Type 1} → statement M
 change-spec =
@@ -39,8 +25,8 @@ change-spec =
     (λ c κs. search needs)
     (λ c κs. search needs)
     (λ c κs. search needs)
-    returns
-    returns-2
-    returns-3
-    returns-4
-    returns-5)
+    (λ c. search change-at)
+    (λ c. search change-at)
+    (λ c. search change-at)
+    (λ c. search change-at)
+    (λ c. search at-usage))

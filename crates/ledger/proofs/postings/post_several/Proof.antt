@@ -1,27 +1,19 @@
+-- TERMS and TRANSFER have their own rules, and an entry of several accounts that is neither closes.
 use borrow.Author.Needs.{needs}
 use borrow.Author.Tests.{ne-eqb}
-use mathlib.Core.Path.{_∙_, sym}
+use mathlib.Core.Path.{_≡_}
 use Rattle.ledger.proofs.KindCases.{several-at, several-closes}
+use Rattle.ledger.specs.Closing.{postClosing}
 use Rattle.ledger.specs.Posting.{postSeveral}
+use Rattle.ledger.specs.declared.answers.Posted.{Posted}
+use Rattle.ledger.specs.declared.entries.Entry.{Entry}
+use Rattle.ledger.specs.declared.state.Ledger.{Ledger}
 use Rattle.ledger.proofs.postings.post_several.Statement.{statement}
 use Rattle.ledger.proofs.postings.post_several.Tie as tie
 
-post-closing-requires : tie.Need-post-closing-requires
-post-closing-requires c κs =
-    let s : tie.Start = search in
-    (s .pre .0, several-closes (s .args .e .kind) (s .pre .1) (c .match .rest .0 .1) (c .match .rest .1))
-
-returns : tie.Need-returns
-returns c = let s : tie.Start = search in c .post-terms .ensures ∙ sym (several-at (s .args .l) (s .args .e) 1 (c .before .match .keys1))
-
-returns-2 : tie.Need-returns-2
-returns-2 c = let s : tie.Start = search in c .post-transfer .ensures ∙ sym (several-at (s .args .l) (s .args .e) 4 (c .before .match .keys2))
-
-returns-3 : tie.Need-returns-3
+at-closing : (l : Ledger) (e : Entry) (r : Posted) → (e .kind ≡ 1 → ⊥) → (e .kind ≡ 4 → ⊥) → r ≡ postClosing l e → r ≡ postSeveral l e
 unfolding postSeveral
-returns-3 c =
-    let s : tie.Start = search in
-    rw (c .post-closing .ensures, ne-eqb (s .args .e .kind) 1 (c .before .match .rest .0 .1), ne-eqb (s .args .e .kind) 4 (c .before .match .rest .1))
+at-closing l e r d1 d4 p = rw (ne-eqb (e .kind) 1 d1, ne-eqb (e .kind) 4 d4) p
 
 pub post-several-spec : {M : Type 1} → statement M
 post-several-spec =
@@ -29,7 +21,7 @@ post-several-spec =
     (tie.spec
     (λ c κs. search needs)
     (λ c κs. search needs)
-    post-closing-requires
-    returns
-    returns-2
-    returns-3)
+    (λ c κs. search (needs, several-closes))
+    (λ c. search several-at)
+    (λ c. search several-at)
+    (λ c. search at-closing))

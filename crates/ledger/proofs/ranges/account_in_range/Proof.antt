@@ -1,3 +1,4 @@
+-- The four parts with ranges of their own are asked of their own functions; the rest is compared here, as the rule has it.
 use borrow.Author.Needs.{needs}
 use Rattle.ledger.specs.Ranges.{accountInRange}
 use Rattle.ledger.proofs.ranges.account_in_range.Statement.{statement}
@@ -5,19 +6,12 @@ use Rattle.ledger.proofs.ranges.account_in_range.Tie as tie
 
 returns : tie.Need-returns
 unfolding accountInRange
-returns c = rw (
-  c .before .before .before .before .before .within2 .ensures,
-  c .before .before .before .before .before .before .step-in-range .ensures,
-  c .before .before .before .before .before .before .before .totals-in-range .ensures,
-  c .before .before .before .before .before .before .before .before .within .ensures,
-)
+returns c =
+    let bank : tie.After-within = search in
+    let totals : tie.After-totals-in-range = search in
+    let steps : tie.After-step-in-range = search in
+    let owed : tie.After-within2 = search in
+    rw (owed .within2 .ensures, steps .step-in-range .ensures, totals .totals-in-range .ensures, bank .within .ensures)
 
 pub account-in-range-spec : {M : Type 1} → statement M
-account-in-range-spec =
-    tie.close
-    (tie.spec
-    (λ c κs. search needs)
-    (λ c κs. search needs)
-    (λ c κs. search needs)
-    (λ c κs. search needs)
-    returns)
+account-in-range-spec = tie.close (search (needs, tie.spec, returns))

@@ -1,3 +1,4 @@
+-- One account after the other: what has been found and the accounts still to come together say what the rule says, and at the end none is left.
 use borrow.Author.Needs.{needs}
 use native.Mathlib.Omega.{arith}
 use mathlib.Core.Path.{_∙_, _≡_, sym}
@@ -16,42 +17,42 @@ Inv-loop l ok₀ i₀ ok i = (i ≤ 16) × (ok && everyAccount accountInRange (d
 abbrev μ-loop : tie.MeasureT-loop
 μ-loop l ok₀ i₀ ok i = 16 - i
 
-sixteen : (c : tie.Start Inv-loop μ-loop) → length (c .args .t1 .accounts) ≡ 16
-sixteen c = search (needs, length-mapped)
+sixteen : (s : tie.Start Inv-loop μ-loop) → length (s .args .t1 .accounts) ≡ 16
+sixteen s = search (needs, length-mapped)
 
 loop-holds : tie.Need-loop-holds Inv-loop μ-loop
 unfolding inRange
-loop-holds c = (search needs, rw (c .in-range .ensures, c .before .real .ensures))
+loop-holds c =
+    let date : tie.After-real Inv-loop μ-loop = search in
+    (search needs, rw (c .in-range .ensures, date .real .ensures))
 
 loop-again : tie.Need-loop-again Inv-loop μ-loop
 unfolding nobody noTotals noMarks
 loop-again c =
-    let s = c .before .before .before in
-    let l = s .before .before .before .before .before .args .t1 .accounts in (
+    let s : tie.Start Inv-loop μ-loop = search in
+    let v : tie.At-loop Inv-loop μ-loop = search in (
       omega arith,
       rw (c .account-in-range .ensures)
-          (sym (every-next accountInRange l (s .loop .i) nobody (s .loop .ok) (omega (arith, sixteen (s .before .before .before .before .before)))) ∙ s .loop .inv .1),
+          (sym (every-next accountInRange (s .args .t1 .accounts) (v .loop .i) nobody (v .loop .ok) (omega (arith, sixteen s))) ∙ v .loop .inv .1),
     )
 
 returns : tie.Need-returns Inv-loop μ-loop
 returns c =
-    let s = c .before in
-    let l = s .before .before .before .before .before .args .t1 .accounts in
-    sym (every-end accountInRange l (s .loop .i) (s .loop .ok) (omega (arith, sixteen (s .before .before .before .before .before)))) ∙ s .loop .inv .1
+    let s : tie.Start Inv-loop μ-loop = search in
+    let v : tie.At-loop Inv-loop μ-loop = search in
+    sym (every-end accountInRange (s .args .t1 .accounts) (v .loop .i) (v .loop .ok) (omega (arith, sixteen s))) ∙ v .loop .inv .1
+
+mul-a : tie.Need-mul-a Inv-loop μ-loop
+mul-a c = search needs
+
+element-copy-out-a : tie.Need-element-copy-out-a Inv-loop μ-loop
+element-copy-out-a c = search needs
+
+add-i : tie.Need-add-i Inv-loop μ-loop
+add-i c = search needs
+
+loop-less : tie.Need-loop-less Inv-loop μ-loop
+loop-less c = search needs
 
 pub in-range-spec : {M : Type 1} → statement M
-in-range-spec =
-    tie.close
-    (tie.spec
-    Inv-loop
-    μ-loop
-    (λ c κs. search needs)
-    (λ c κs. search needs)
-    loop-holds
-    (λ c. search needs)
-    (λ c. search needs)
-    (λ c κs. search needs)
-    (λ c. search needs)
-    (λ c. search needs)
-    loop-again
-    returns)
+in-range-spec {M = M} = tie.close (search (needs, tie.spec {M = M} Inv-loop μ-loop, loop-holds, mul-a, element-copy-out-a, add-i, loop-less, loop-again, returns))

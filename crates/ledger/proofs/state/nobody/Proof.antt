@@ -1,3 +1,4 @@
+-- Every part of an account that is not open is zero, the totals and the marks by their own functions.
 use borrow.Author.Needs.{needs}
 use Rattle.ledger.specs.State.{nobody}
 use Rattle.ledger.proofs.state.nobody.Statement.{statement}
@@ -5,10 +6,7 @@ use Rattle.ledger.proofs.state.nobody.Tie as tie
 
 returns : tie.Need-returns
 unfolding nobody
-returns c = rw (
-  c .no-marks .ensures,
-  c .before .no-totals .ensures,
-)
+returns c = let totals : tie.After-no-totals = search in rw (c .no-marks .ensures, totals .no-totals .ensures)
 
 pub nobody-spec : {M : Type 1} → statement M
-nobody-spec = tie.close (tie.spec (λ c κs. search needs) (λ c κs. search needs) returns)
+nobody-spec = tie.close (search (needs, tie.spec, returns))

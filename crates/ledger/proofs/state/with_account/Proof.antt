@@ -1,11 +1,9 @@
+-- One account is stored, the mark of an accepted posting is set, and the rest stays as it was.
 use borrow.Author.Needs.{needs}
 use Rattle.ledger.specs.State.{withAccount}
 use Rattle.ledger.proofs.state.with_account.Statement.{statement}
 use Rattle.ledger.proofs.state.with_account.Tie as tie
 
-returns : tie.Need-returns
-unfolding withAccount
-returns c = search needs
-
 pub with-account-spec : {M : Type 1} → statement M
-with-account-spec = tie.close (tie.spec (λ c. search needs) (λ c. search needs) returns)
+unfolding withAccount
+with-account-spec = tie.close (tie.spec (λ c. search needs) (λ c. search needs) (λ c. search needs))

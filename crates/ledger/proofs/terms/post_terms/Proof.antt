@@ -1,30 +1,31 @@
+-- The next ledger is made first and judged with the rest; the checks then stand in ascending order.
 use borrow.Author.Needs.{needs}
+use Prim.Native.Nat.{ℕ}
+use mathlib.Core.Bool.{Bool, cond, not}
+use mathlib.Core.Path.{_≡_}
+use Rattle.tariff.specs.Dates.{firstOfGasYear}
+use Rattle.ledger.specs.Answers.{settle}
 use Rattle.ledger.specs.Checks.{verdict}
-use Rattle.ledger.specs.Terms.{postTerms, termsChecks}
+use Rattle.ledger.specs.Ranges.{inRange}
+use Rattle.ledger.specs.Terms.{postTerms, termsChecks, termsNext}
+use Rattle.ledger.specs.declared.answers.Posted.{Posted}
+use Rattle.ledger.specs.declared.entries.Entry.{Entry}
+use Rattle.ledger.specs.declared.state.Ledger.{Ledger}
 use Rattle.ledger.proofs.terms.post_terms.Statement.{statement}
 use Rattle.ledger.proofs.terms.post_terms.Tie as tie
 
-returns : tie.Need-returns
+judged : (l next : Ledger) (e : Entry) (first fits : Bool) (n₁ n₂ n₃ : ℕ) (r : Posted)
+    → first ≡ firstOfGasYear (e .date) → next ≡ termsNext l e → fits ≡ inRange next
+    → n₁ ≡ cond (not fits) 29 0 → n₂ ≡ cond (l .touched) 23 n₁ → n₃ ≡ cond (not first) 23 n₂
+    → r ≡ settle l n₃ next → r ≡ postTerms l e
 unfolding postTerms termsChecks verdict
-returns c = rw (
-  c .settle .ensures,
-  c .before .refuse3 .ensures,
-  c .before .before .refuse2 .ensures,
-  c .before .before .before .refuse .ensures,
-  c .before .before .before .before .in-range .ensures,
-  c .before .before .before .before .before .terms-next .ensures,
-  c .before .before .before .before .before .before .first-of-gas-year .ensures,
-)
+judged l next e first fits n₁ n₂ n₃ r f p q q₁ q₂ q₃ z = cc
+
+terms-next-requires : tie.Need-terms-next-requires
+terms-next-requires c κs = search needs
+
+returns : tie.Need-returns
+returns c = search judged
 
 pub post-terms-spec : {M : Type 1} → statement M
-post-terms-spec =
-    tie.close
-    (tie.spec
-    (λ c κs. search needs)
-    (λ c κs. search needs)
-    (λ c κs. search needs)
-    (λ c κs. search needs)
-    (λ c κs. search needs)
-    (λ c κs. search needs)
-    (λ c κs. search needs)
-    returns)
+post-terms-spec = tie.close (search (needs, tie.spec, terms-next-requires, returns))

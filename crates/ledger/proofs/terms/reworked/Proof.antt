@@ -1,3 +1,4 @@
+-- The step of an open account in range is at most 100, so the terms give it a capacity; any other account stays as it is.
 use Rattle.ledger.proofs.Bounded.{stepped}
 use Rattle.ledger.specs.State.{withCapacity}
 use Rattle.ledger.specs.Terms.{reworked}
@@ -9,7 +10,7 @@ capacity-requires c κs = let s : tie.Start = search in (s .pre .0, stepped (s .
 
 returns : tie.Need-returns
 unfolding reworked withCapacity
-returns c = rw (c .capacity .ensures .0, c .before .if1 .taken)
+returns c = let open′ : tie.Then1 = search in rw (c .capacity .ensures .0, open′ .if1 .taken)
 
 returns-2 : tie.Need-returns-2
 unfolding reworked withCapacity

@@ -1,26 +1,25 @@
+-- The usage is entered first and judged with the account; the checks then stand in ascending order.
 use borrow.Author.Needs.{needs}
+use Prim.Native.Nat.{ℕ}
+use mathlib.Core.Bool.{Bool, cond, not}
+use mathlib.Core.Path.{_≡_}
 use Rattle.ledger.specs.Checks.{verdict}
-use Rattle.ledger.specs.Usage.{afterUsage, usage, usageChecks}
+use Rattle.ledger.specs.Ranges.{accountInRange}
+use Rattle.ledger.specs.Usage.{afterUsage, metered, usage, usageChecks}
+use Rattle.ledger.specs.declared.entries.Entry.{Entry}
+use Rattle.ledger.specs.declared.state.Account.{Account}
 use Rattle.ledger.proofs.usage.usage.Statement.{statement}
 use Rattle.ledger.proofs.usage.usage.Tie as tie
 
-returns : tie.Need-returns
+judged : (a b : Account) (e : Entry) (fits : Bool) (n₁ n₂ n₃ : ℕ)
+    → b ≡ metered a (record { 0 = e .w1 }) → fits ≡ accountInRange b
+    → n₁ ≡ cond (not fits) 29 0 → n₂ ≡ cond (a .marks .metered) 26 n₁ → n₃ ≡ cond (not (a .opened)) 24 n₂
+    → record { number = n₃; account = b } ≡ usage a e
 unfolding usage usageChecks afterUsage verdict
-returns c = rw (
-  c .refuse3 .ensures,
-  c .before .refuse2 .ensures,
-  c .before .before .refuse .ensures,
-  c .before .before .before .before .account-in-range .ensures,
-  c .before .before .before .before .before .metered .ensures,
-)
+judged a b e fits n₁ n₂ n₃ p r q₁ q₂ q₃ = cc
+
+returns : tie.Need-returns
+returns c = search judged
 
 pub usage-spec : {M : Type 1} → statement M
-usage-spec =
-    tie.close
-    (tie.spec
-    (λ c κs. search needs)
-    (λ c κs. search needs)
-    (λ c κs. search needs)
-    (λ c κs. search needs)
-    (λ c κs. search needs)
-    returns)
+usage-spec = tie.close (search (needs, tie.spec, returns))

@@ -1,3 +1,4 @@
+-- Each account is tested where the kind uses it, as the rule has it.
 use borrow.Author.Needs.{needs}
 use Rattle.ledger.specs.Entries.{accountTooHigh}
 use Rattle.ledger.proofs.entries.Entry.account_too_high.Statement.{statement}
@@ -5,10 +6,7 @@ use Rattle.ledger.proofs.entries.Entry.account_too_high.Tie as tie
 
 returns : tie.Need-returns
 unfolding accountTooHigh
-returns c = rw (
-  c .before .uses-b .ensures,
-  c .before .before .before .uses-a .ensures,
-)
+returns c = cc
 
 pub account-too-high-spec : {M : Type 1} → statement M
-account-too-high-spec = tie.close (tie.spec (λ c κs. search needs) (λ c κs. search needs) returns)
+account-too-high-spec = tie.close (search (needs, tie.spec, returns))

@@ -1,49 +1,22 @@
+-- Each kind has its own ranges, and a kind that is none of them has no words to test.
 use borrow.Author.Needs.{needs}
 use borrow.Author.Tests.{ne-eqb}
-use mathlib.Core.Path.{_∙_, ap, sym}
-use Rattle.ledger.proofs.KindCases.{words-at}
+use Prim.Native.Nat.{ℕ}
+use mathlib.Core.Bool.{Bool, true}
+use mathlib.Core.Path.{_∙_, _≡_, sym}
+use Rattle.ledger.proofs.KindCases.{wordsBy, words-at}
 use Rattle.ledger.specs.Entries.{wordsInRange}
-use Rattle.tariff.specs.Bill.{pricesInRange}
-use Rattle.tariff.specs.Terms.{termsInRange}
+use Rattle.ledger.specs.declared.entries.Entry.{Entry}
 use Rattle.ledger.proofs.entries.Entry.words_in_range.Statement.{statement}
 use Rattle.ledger.proofs.entries.Entry.words_in_range.Tie as tie
 
-returns : tie.Need-returns
-returns c = c .in-range .ensures ∙ ap termsInRange (c .before .terms .ensures) ∙ sym (words-at (c .before .before .before .args .self) 1 (c .before .before .match .keys1))
+at-kind : (e : Entry) (n : ℕ) (r : Bool) → e .kind ≡ n → r ≡ wordsBy e n → r ≡ wordsInRange e
+at-kind e n r k p = p ∙ sym (words-at e n k)
 
-returns-2 : tie.Need-returns-2
-returns-2 c = sym (words-at (c .before .before .before .args .self) 2 (c .before .before .match .keys2))
-
-returns-3 : tie.Need-returns-3
-returns-3 c = sym (words-at (c .before .before .before .args .self) 3 (c .before .before .match .keys3))
-
-returns-4 : tie.Need-returns-4
-returns-4 c = rw (c .some-units2 .ensures, c .before .some-units .ensures) (sym (words-at (c .before .before .before .args .self) 4 (c .before .before .match .keys4)))
-
-returns-5 : tie.Need-returns-5
-returns-5 c = c .some-units3 .ensures ∙ sym (words-at (c .before .before .args .self) 5 (c .before .match .keys5))
-
-returns-6 : tie.Need-returns-6
-returns-6 c = sym (words-at (c .before .before .args .self) 6 (c .before .match .keys6))
-
-returns-7 : tie.Need-returns-7
-returns-7 c = sym (words-at (c .before .before .args .self) 7 (c .before .match .keys7))
-
-returns-8 : tie.Need-returns-8
-returns-8 c = c .in-range2 .ensures ∙ ap pricesInRange (c .before .prices .ensures) ∙ sym (words-at (c .before .before .before .args .self) 9 (c .before .before .match .keys8))
-
-returns-9 : tie.Need-returns-9
+none : (e : Entry) → (e .kind ≡ 1 → ⊥) → (e .kind ≡ 2 → ⊥) → (e .kind ≡ 3 → ⊥) → (e .kind ≡ 4 → ⊥) → (e .kind ≡ 5 → ⊥) → (e .kind ≡ 6 → ⊥) → (e .kind ≡ 7 → ⊥) → (e .kind ≡ 9 → ⊥) → true ≡ wordsInRange e
 unfolding wordsInRange
-returns-9 c = rw (
-  ne-eqb (c .before .args .self .kind) 1 (c .match .rest .0 .0 .0 .0 .0 .0 .0 .1),
-  ne-eqb (c .before .args .self .kind) 2 (c .match .rest .0 .0 .0 .0 .0 .0 .1),
-  ne-eqb (c .before .args .self .kind) 3 (c .match .rest .0 .0 .0 .0 .0 .1),
-  ne-eqb (c .before .args .self .kind) 4 (c .match .rest .0 .0 .0 .0 .1),
-  ne-eqb (c .before .args .self .kind) 5 (c .match .rest .0 .0 .0 .1),
-  ne-eqb (c .before .args .self .kind) 6 (c .match .rest .0 .0 .1),
-  ne-eqb (c .before .args .self .kind) 7 (c .match .rest .0 .1),
-  ne-eqb (c .before .args .self .kind) 9 (c .match .rest .1),
-)
+none e d1 d2 d3 d4 d5 d6 d7 d9 =
+    rw (ne-eqb (e .kind) 1 d1, ne-eqb (e .kind) 2 d2, ne-eqb (e .kind) 3 d3, ne-eqb (e .kind) 4 d4, ne-eqb (e .kind) 5 d5, ne-eqb (e .kind) 6 d6, ne-eqb (e .kind) 7 d7, ne-eqb (e .kind) 9 d9)
 
 pub words-in-range-spec : {M : Type 1} → statement M
 words-in-range-spec =
@@ -56,12 +29,12 @@ words-in-range-spec =
     (λ c κs. search needs)
     (λ c κs. search needs)
     (λ c κs. search needs)
-    returns
-    returns-2
-    returns-3
-    returns-4
-    returns-5
-    returns-6
-    returns-7
-    returns-8
-    returns-9)
+    (λ c. let s : tie.Start = search in cc (words-at (s .args .self) 1 (search)))
+    (λ c. search (needs, at-kind))
+    (λ c. search (needs, at-kind))
+    (λ c. let s : tie.Start = search in cc (words-at (s .args .self) 4 (search)))
+    (λ c. search (needs, at-kind))
+    (λ c. search (needs, at-kind))
+    (λ c. search (needs, at-kind))
+    (λ c. let s : tie.Start = search in cc (words-at (s .args .self) 9 (search)))
+    (λ c. search none))
