@@ -34,6 +34,10 @@ pub choice-le : (n : ℕ) (t : Bool) (x y : ℕ) → x ≤ n → y ≤ n → con
 choice-le n true x y h k = h
 choice-le n false x y h k = k
 
+-- what equals a definition's value is bounded as that is
+pub and-bound : {A : Type 0} (P : A → Type 0) {x y : A} → x ≡ y → P y → (x ≡ y) × P x
+and-bound P e h = (e, rw e h)
+
 -- ---- deliveries
 
 pub days-le : (m : Month) → daysOfInjection m ≤ 30

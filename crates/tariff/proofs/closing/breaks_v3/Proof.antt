@@ -1,3 +1,4 @@
+-- The three calls give the definition's three parts, one inside the other.
 use borrow.Author.Needs.{needs}
 use Rattle.tariff.specs.Closing.{breaksV3}
 use Rattle.tariff.proofs.closing.breaks_v3.Statement.{statement}
@@ -5,11 +6,7 @@ use Rattle.tariff.proofs.closing.breaks_v3.Tie as tie
 
 returns : tie.Need-returns
 unfolding breaksV3
-returns c = rw (
-  c .above .ensures,
-  c .before .percent .ensures .0,
-  c .before .before .mmbq .ensures .0,
-)
+returns c = cc
 
 pub breaks-v3-spec : {M : Type 1} → statement M
-breaks-v3-spec = tie.close (tie.spec (λ c κs. search needs) (λ c κs. search needs) (λ c κs. search needs) returns)
+breaks-v3-spec = tie.close (tie.spec (search needs) (search needs) (search needs) returns)

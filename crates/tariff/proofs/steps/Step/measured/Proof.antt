@@ -1,3 +1,4 @@
+-- Every field is the definition's choice: each value of the code is worked out before it is chosen or not.
 use borrow.Author.Needs.{needs}
 use Rattle.tariff.specs.Steps.{measured}
 use Rattle.tariff.proofs.steps.Step.measured.Statement.{statement}
@@ -5,33 +6,7 @@ use Rattle.tariff.proofs.steps.Step.measured.Tie as tie
 
 returns : tie.Need-returns
 unfolding measured
-returns c = rw (
-  c .choose5 .ensures,
-  c .before .choose4 .ensures,
-  c .before .before .before .is-under .ensures,
-  c .before .before .before .before .choose3 .ensures,
-  c .before .before .before .before .before .choose2 .ensures,
-  c .before .before .before .before .before .before .before .is-over .ensures,
-  c .before .before .before .before .before .before .before .before .choose .ensures,
-  c .before .before .before .before .before .before .before .before .before .larger .ensures,
-  c .before .before .before .before .before .before .before .before .before .before .step-of .ensures .0,
-  c .before .before .before .before .before .before .before .before .before .before .before .crosses .ensures,
-)
+returns c = cc
 
 pub measured-spec : {M : Type 1} → statement M
-measured-spec =
-    tie.close
-    (tie.spec
-    (λ c κs. search needs)
-    (λ c κs. search needs)
-    (λ c κs. search needs)
-    (λ c κs. search needs)
-    (λ c κs. search needs)
-    (λ c. search needs)
-    (λ c κs. search needs)
-    (λ c κs. search needs)
-    (λ c κs. search needs)
-    (λ c. search needs)
-    (λ c κs. search needs)
-    (λ c κs. search needs)
-    returns)
+measured-spec = tie.close (tie.spec (search needs) (search needs) (search needs) (search needs) (search needs) (search needs) (search needs) (search needs) (search needs) (search needs) (search needs) (search needs) returns)
