@@ -1,4 +1,4 @@
--- The three calls give the definition's three parts, one inside the other.
+-- V5 is asked only as February or March ends; the code works out every part of the test and joins them as the rule does.
 use borrow.Author.Needs.{needs}
 use Rattle.tariff.specs.Closing.{breaksV5}
 use Rattle.tariff.specs.Months.{february, march}

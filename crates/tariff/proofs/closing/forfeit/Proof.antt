@@ -13,4 +13,8 @@ unfolding forfeitOf january march
 returns c = let s : tie.Start = search in and-bound (λ taken. taken .0 ≤ size (s .args .bank)) (cc) (search forfeit-le)
 
 pub forfeit-spec : {M : Type 1} → statement M
-forfeit-spec = tie.close (tie.spec (search needs) (search needs) (search needs) (search needs) (search needs) (search needs) (search needs) (search needs) returns)
+forfeit-spec =
+    tie.close
+    (tie.spec
+    (search needs) (search needs) (search needs) (search needs) (search needs) (search needs) (search needs) (search needs)
+    returns)

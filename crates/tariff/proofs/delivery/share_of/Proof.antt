@@ -11,4 +11,8 @@ unfolding shareOf
 returns c = and-bound (λ share. share ≤ 100) (cc) (search share-le)
 
 pub share-of-spec : {M : Type 1} → statement M
-share-of-spec = tie.close (tie.spec (search needs) (search needs) (search needs) (search needs) (search needs) (search needs) (search needs) (search needs) (search needs) (search needs) returns)
+share-of-spec =
+    tie.close
+    (tie.spec
+    (search needs) (search needs) (search needs) (search needs) (search needs) (search needs) (search needs) (search needs)
+    (search needs) (search needs) returns)
