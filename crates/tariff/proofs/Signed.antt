@@ -119,7 +119,11 @@ module _ (n : ℕ) (h : n < 2 ^ 63) where
 
 -- ---- the positive part
 
-pub positive-none : (z : ℤ) → ltZ z (pos 0) ≡ true → positivePart z ≡ 0
+-- the machine's test of a sign is the number's
+pub sign : (z : ℤ) (t : Bool) → SFits w64 z → ltZ (toZ w64 (ofZ w64 z)) (pos 0) ≡ t → ltZ z (pos 0) ≡ t
+sign z t f h = rw (toZ-ofZ f) at h
+
+pub positive-none : (z : ℤ) → ltZ z (pos 0) ≡ true → 0 ≡ positivePart z
 unfolding positivePart
 positive-none (pos n) h = absurd (omega (arith, ltb-true n 0 h))
 positive-none (negsuc n) h = refl
@@ -189,7 +193,7 @@ module _ (z : ℤ) (f : SFits w64 z) (h : ltZ z (pos 0) ≡ true) where
       go (negsuc n) h = add-one n
 
 -- a number that is not below zero has nothing below it
-pub opposite-none : (z : ℤ) → ltZ z (pos 0) ≡ false → positivePart (negℤ z) ≡ 0
+pub opposite-none : (z : ℤ) → ltZ z (pos 0) ≡ false → 0 ≡ positivePart (negℤ z)
 unfolding positivePart
 opposite-none (pos zero) h = refl
 opposite-none (pos (suc n)) h = refl
