@@ -137,24 +137,30 @@ pub not-negative : (z : ℤ) → ltZ z (pos 0) ≡ false → T (nonNeg z)
 not-negative (pos n) h = tt
 not-negative (negsuc n) h = absurd (subst T h tt)
 
--- a difference of two quantities, scaled by at most 10,000 and divided by it
+-- what the machine makes of (d − b) × k / 10,000, step by step
 module _ (d b k : ℕ) (hd : d ≤ 1000000000) (hb : b ≤ 1000000000) (hk : k ≤ 10000) where
-  scaled-size : natAbs ((pos d -ℤ pos b) *ℤ pos k) < 2 ^ 62
-  scaled-size =
+  product-is : toZ w64 (ofZ w64 (toZ w64 d -ℤ toZ w64 b)) *ℤ toZ w64 k ≡ (pos d -ℤ pos b) *ℤ pos k
+  product-is = rw (difference-read (pos d) (pos b) (omega arith), read-nat k (omega arith))
+
+  product-size : natAbs ((pos d -ℤ pos b) *ℤ pos k) < 2 ^ 62
+  product-size =
       let far : natAbs (pos d -ℤ pos b) ≤ 1000000000 = omega (arith, size-naturals d b) in
       omega (arith, size-product (pos d -ℤ pos b) (pos k), mul-le-mul far hk)
 
-  pub scaled-fits-in : SFits w64 ((pos d -ℤ pos b) *ℤ pos k)
-  scaled-fits-in = fits _ (omega (arith, scaled-size))
+  pub product-fits : SFits w64 (toZ w64 (ofZ w64 (toZ w64 d -ℤ toZ w64 b)) *ℤ toZ w64 k)
+  product-fits = rw product-is (fits _ (omega (arith, product-size)))
 
-  pub scaled-read : toZ w64 (ofZ w64 ((pos d -ℤ pos b) *ℤ pos k)) ≡ (pos d -ℤ pos b) *ℤ pos k
-  scaled-read = read ((pos d -ℤ pos b) *ℤ pos k) (omega (arith, scaled-size))
+  quotient-is : quotZ (toZ w64 (ofZ w64 (toZ w64 (ofZ w64 (toZ w64 d -ℤ toZ w64 b)) *ℤ toZ w64 k))) (pos 10000) ≡ quotZ ((pos d -ℤ pos b) *ℤ pos k) (pos 10000)
+  quotient-is = rw (product-is, read ((pos d -ℤ pos b) *ℤ pos k) (omega (arith, product-size)))
 
-  pub quotient-fits : SFits w64 (quotZ ((pos d -ℤ pos b) *ℤ pos k) (pos 10000))
-  quotient-fits = fits _ (omega (arith, scaled-size, size-quotient ((pos d -ℤ pos b) *ℤ pos k) (pos 10000)))
+  quotient-size : natAbs (quotZ ((pos d -ℤ pos b) *ℤ pos k) (pos 10000)) < 2 ^ 63
+  quotient-size = omega (arith, product-size, size-quotient ((pos d -ℤ pos b) *ℤ pos k) (pos 10000))
 
-  pub quotient-read : toZ w64 (ofZ w64 (quotZ ((pos d -ℤ pos b) *ℤ pos k) (pos 10000))) ≡ quotZ ((pos d -ℤ pos b) *ℤ pos k) (pos 10000)
-  quotient-read = read _ (omega (arith, scaled-size, size-quotient ((pos d -ℤ pos b) *ℤ pos k) (pos 10000)))
+  pub quotient-fits : SFits w64 (quotZ (toZ w64 (ofZ w64 (toZ w64 (ofZ w64 (toZ w64 d -ℤ toZ w64 b)) *ℤ toZ w64 k))) (pos 10000))
+  quotient-fits = rw quotient-is (fits _ quotient-size)
+
+  pub quotient-read : toZ w64 (ofZ w64 (quotZ (toZ w64 (ofZ w64 (toZ w64 (ofZ w64 (toZ w64 d -ℤ toZ w64 b)) *ℤ toZ w64 k))) (pos 10000))) ≡ quotZ ((pos d -ℤ pos b) *ℤ pos k) (pos 10000)
+  quotient-read = rw quotient-is (read _ quotient-size)
 
 -- the opposite of a number below zero, by way of the next one up, which always has one
 module _ (z : ℤ) (f : SFits w64 z) (h : ltZ z (pos 0) ≡ true) where

@@ -15,16 +15,16 @@ use Rattle.tariff.proofs.terms.Terms.in_range.Tie as tie
 abbrev fits : Terms → Bool
 fits t = leb 1 (t .«no_notice» .0) && leb (t .«no_notice» .0) 10000000
 
-bound : (c : tie.Else1) → c .before .args .self .«no_notice» .0 ≤ 10000000
-bound c = search (parts, leb-true, not-false)
-
 returns : tie.Need-returns
 unfolding termsInRange
 returns c = let s : tie.Start = search in let out : fits (s .args .self) ≡ false = search not-true in rw out
+
+mul-stored : tie.Need-mul-stored
+mul-stored c = let s : tie.Start = search in let bound : s .args .self .«no_notice» .0 ≤ 10000000 = search (parts, leb-true, not-false) in omega arith
 
 returns-2 : tie.Need-returns-2
 unfolding termsInRange
 returns-2 c = let s : tie.Start = search in let within : fits (s .args .self) ≡ true = search not-false in rw within
 
 pub in-range-spec : {M : Type 1} → statement M
-in-range-spec = tie.close (tie.spec returns (λ c. omega (arith, bound (search))) returns-2)
+in-range-spec = tie.close (tie.spec returns mul-stored returns-2)
