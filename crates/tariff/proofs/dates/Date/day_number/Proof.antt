@@ -1,14 +1,10 @@
--- The days of the months before are counted as if February had 30, less what it lacks, which never exceeds the count.
-use Prim.Native.Nat.{_<_}
+-- The days of the months before are counted as if February had 30, less what it lacks, which is never more than the count.
 use native.Mathlib.Omega.{arith}
 use borrow.Author.Needs.{needs}
 use Rattle.tariff.proofs.Calendar.{days-before, short-le}
 use Rattle.tariff.specs.Dates.{dayNumber}
 use Rattle.tariff.proofs.dates.Date.day_number.Statement.{statement}
 use Rattle.tariff.proofs.dates.Date.day_number.Tie as tie
-
-sub-months-2 : tie.Need-sub-months-2
-sub-months-2 c = let short : tie.After-choose2 = search in let kind : tie.After-choose = search in rw (short .choose2 .ensures, kind .choose .ensures) (search short-le)
 
 returns : tie.Need-returns
 unfolding dayNumber
@@ -21,5 +17,5 @@ pub day-number-spec : {M : Type 1} → statement M
 day-number-spec =
     tie.close
     (tie.spec
-    (search needs) (search needs) (search needs) (search needs) (search needs) (search needs) sub-months-2 (search needs)
-    (search needs) (search needs) (search needs) (search needs) (search needs) returns)
+    (search needs) (search needs) (search needs) (search needs) (search needs) (search needs) (λ c. search short-le)
+    (search needs) (search needs) (search needs) (search needs) (search needs) (search needs) returns)
