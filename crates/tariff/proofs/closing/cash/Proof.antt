@@ -26,14 +26,16 @@ module _ (m : Month) (excused : Bool) (bcq : Dth) (bank r : Units) (p : ℕ) (q 
   unfolding cashOf
   brought-down f high h t e g = cc
 
-left : (m : Month) (excused : Bool) (bcq : Dth) (bank r : Units) (low high : Bool) → low ≡ breaksV7 bank → low ≡ false → high ≡ breaksV8 excused bcq bank → high ≡ false → r ≡ nothing → r ≡ cashOf m excused bcq bank
+unmoved : (m : Month) (excused : Bool) (bcq : Dth) (bank r : Units) (low high : Bool) → low ≡ breaksV7 bank → low ≡ false → high ≡ breaksV8 excused bcq bank → high ≡ false → r ≡ nothing → r ≡ cashOf m excused bcq bank
 unfolding cashOf
-left m excused bcq bank r low high l f h k n = cc
+unmoved m excused bcq bank r low high l f h k n = cc
 
 pub cash-spec : {M : Type 1} → statement M
 cash-spec =
     tie.close
     (tie.spec
-    (search needs) (search needs) (search needs) (search needs) (λ c. (search brought-up, omega arith)) (search needs)
-    (search needs) (search needs) (search needs) (λ c. (search brought-down, omega arith)) (search needs)
-    (λ c. (search left, rw (c .nothing .ensures) (omega (arith, size-nothing)))))
+    (search needs)
+    (search needs) (search needs) (search needs) (λ c. (search brought-up, omega arith))
+    (search needs)
+    (search needs) (search needs) (search needs) (λ c. (search brought-down, omega arith))
+    (search needs) (λ c. (search unmoved, rw (c .nothing .ensures) (omega (arith, size-nothing)))))
