@@ -1,4 +1,4 @@
--- The calendar, worked out instead of looked up, and its two laws: what day comes next, and what weekday that is.
+-- The calendar, worked out instead of looked up: each formula is compared with the table of the months, month by month.
 use Prim.Native.Nat.{ℕ, zero, suc, _+_, _*_, _-_, _/_, _%_, _≤_}
 use mathlib.Core.Path.{_≡_, refl, sym, ap, _∙_}
 use mathlib.Core.Bool.{Bool, true, false, cond}

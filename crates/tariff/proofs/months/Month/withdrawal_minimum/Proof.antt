@@ -1,4 +1,4 @@
--- What February and March must take stand in a table from April to March, which a month enters at its place in the gas year; no entry is above 102.
+-- What February and March must take stands in a table from April to March, which a month enters at its place in the gas year; no entry is above 102.
 use Prim.Native.Nat.{_≤_}
 use borrow.Author.Needs.{needs}
 use Rattle.tariff.proofs.Percentages.{withdrawal-minimum-le}
