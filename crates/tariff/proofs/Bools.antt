@@ -1,4 +1,4 @@
--- What a passed test tells of its parts, and laws of choices.
+-- What a passed or failed test tells of its parts, and laws of choices: each by trying true and false.
 use mathlib.Core.Path.{_≡_, refl, sym, _∙_, subst}
 use mathlib.Core.Bool.{Bool, true, false, cond, _&&_, _||_}
 use lib.Dec.{T}

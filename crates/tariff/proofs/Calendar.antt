@@ -1,4 +1,4 @@
--- The calendar, worked out instead of looked up, and its two laws: what day comes next, and what weekday that is.
+-- The calendar, worked out instead of looked up: each formula is compared with the table of the months, month by month.
 use Prim.Native.Nat.{ℕ, zero, suc, _+_, _*_, _-_, _/_, _%_, _≤_}
 use mathlib.Core.Path.{_≡_, refl, sym, ap, _∙_}
 use mathlib.Core.Bool.{Bool, true, false, cond}
@@ -54,12 +54,13 @@ days-before year m h =
     eqb-true _ _ (at-each (before (leap year)) 13 (before-each (leap year)) m (omega arith))
     ∙ ap (λ (xs : List ℕ). total (take (m - 1) xs)) (sym (lengths-are year))
 
-pub short-le : (b : Bool) (m : ℕ) → cond (ltb 2 m) (cond b 1 2) 0 ≤ (367 * m - 362) / 12
-short-le b m = go (ltb 2 m) refl
+-- February lacks one or two days, which are never more than the days before a month behind it
+pub short-le : (b : Bool) (m lack short : ℕ) → lack ≡ cond b 1 2 → short ≡ cond (ltb 2 m) lack 0 → short ≤ (367 * m - 362) / 12
+short-le b m lack short e f = rw (f, e) (go (ltb 2 m) refl)
   where
     go : (t : Bool) → ltb 2 m ≡ t → cond t (cond b 1 2) 0 ≤ (367 * m - 362) / 12
-    go true e = omega (arith, ltb-true 2 m e, choice-le 2 b 1 2 (omega arith) (omega arith))
-    go false e = omega arith
+    go true h = omega (arith, ltb-true 2 m h, choice-le 2 b 1 2 (omega arith) (omega arith))
+    go false h = omega arith
 
 -- ---- no month has more than 31 days
 

@@ -1,4 +1,4 @@
--- The laws of the amounts that the layers above go by: what each definition makes of the numbers.
+-- The laws of the amounts that the layers above go by: what each definition makes of the numbers, so that none of them opens a definition.
 use Prim.Native.Nat.{ℕ, zero, suc, _+_, _≤_}
 use mathlib.Core.Path.{_≡_, refl, sym}
 use mathlib.Core.Bool.{true, _&&_}
@@ -7,7 +7,7 @@ use lib.Dec.{leb}
 use lib.Signed.{leZ}
 use borrow.Author.Tests.{le-leb}
 use lib.IntN.{ℤ, pos, negsuc, _+ℤ_, _-ℤ_, negℤ, +ℤ-idl, +ℤ-idr}
-use Rattle.tariff.specs.Amounts.{nothing, amountOf, sum, more, less, opposite, positivePart, inward, outward, within, size, together, noMoney, added, withinMills, sizeMills}
+use Rattle.tariff.specs.Amounts.{nothing, amountOf, sum, more, less, opposite, positivePart, inward, outward, within, size, together, added, withinMills, sizeMills}
 use Rattle.tariff.specs.declared.amounts.Units.{Units}
 use Rattle.tariff.specs.declared.amounts.Quantity.{Quantity}
 use Rattle.tariff.specs.declared.amounts.Mills.{Mills}
@@ -41,10 +41,6 @@ pub together-value : (a b : Quantity) → together a b .0 ≡ a .0 + b .0
 unfolding together
 together-value a b = refl
 
-pub no-money-value : noMoney .0 ≡ pos 0
-unfolding noMoney
-no-money-value = refl
-
 pub added-value : (a b : Mills) → added a b .0 ≡ a .0 +ℤ b .0
 unfolding added
 added-value a b = refl
@@ -61,10 +57,6 @@ unfolding inward outward opposite
 in-and-out a = parts (a .0)
 
 -- ---- sizes
-
-pub size-amount : (q : Quantity) → size (amountOf q) ≡ q .0
-unfolding size amountOf
-size-amount q = refl
 
 pub within-size : (low high : ℕ) (a : Units) → within low high a ≡ true → low ≤ high → size a ≤ high
 unfolding within size

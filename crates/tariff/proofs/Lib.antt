@@ -1,3 +1,4 @@
+-- The lemmas that several proofs go by, of this crate and of those above it.
 pub mod Bools
 pub mod Signed
 pub mod Sizes

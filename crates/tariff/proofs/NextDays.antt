@@ -1,4 +1,4 @@
--- The day after a real date is the right one: the laws that `right_days` states.
+-- The day after a real date is the right one, by the three ways on: within the month, to the next month, to the next year.
 use Prim.Native.Nat.{ℕ, _+_, _*_, _-_, _/_, _%_, _≤_, _<_}
 use mathlib.Core.Path.{_≡_, refl, sym, ap, _∙_}
 use mathlib.Core.Bool.{Bool, true, false, cond, not, _&&_}

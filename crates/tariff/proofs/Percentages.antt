@@ -1,4 +1,4 @@
--- No percentage of a month is above 102.
+-- No percentage of a month is above 102: each table is compared entry by entry.
 use Prim.Native.Nat.{_≤_}
 use Rattle.tariff.specs.Months.{minimum, maximum, mmbq, withdrawalMaximum, withdrawalMinimum}
 use Rattle.tariff.specs.declared.months.Month.{Month}

@@ -65,7 +65,7 @@ date-bounds d h =
     }
 
 -- a quotient of a product: a × b / c ≤ a × n where b ≤ n × c
-pub quotient-le : (a b c n : ℕ) → b ≤ n * c → a * b / c ≤ a * n
+quotient-le : (a b c n : ℕ) → b ≤ n * c → a * b / c ≤ a * n
 quotient-le a b c n h = div-le-of-le-mul c (rw (← mul-comm (a * n) c, mul-assoc a n c) (mul-le-mul-left a h))
 
 pub mddq-le : (t : Terms) (k : ℕ) → termsInRange t ≡ true → k ≤ 100 → mddqOf t k .0 ≤ 300000

@@ -1,6 +1,6 @@
--- How large what the definitions give can be.
+-- How large what the definitions give can be: each bound follows from the bounds of the parts, case by case.
 use Prim.Native.Nat.{ℕ, _+_, _*_, _-_, _/_, _≤_, min, max}
-use mathlib.Core.Path.{_≡_}
+use mathlib.Core.Path.{_≡_, refl}
 use mathlib.Core.Bool.{Bool, true, false, cond, not, _&&_, _||_}
 use native.Mathlib.Omega.{arith}
 use native.Mathlib.Nat.{mul-le-mul, div-le-of-le-mul}
@@ -34,6 +34,10 @@ pub choice-le : (n : ℕ) (t : Bool) (x y : ℕ) → x ≤ n → y ≤ n → con
 choice-le n true x y h k = h
 choice-le n false x y h k = k
 
+-- what equals a definition's value is bounded as that is
+pub and-bound : {A : Type 0} (P : A → Type 0) {x y : A} → x ≡ y → P y → (x ≡ y) × P x
+and-bound P e h = (e, rw e h)
+
 -- ---- deliveries
 
 pub days-le : (m : Month) → daysOfInjection m ≤ 30
@@ -58,36 +62,31 @@ retained-le retainage delivered backCast h l =
 
 -- ---- steps
 
-pub step-le : (mdq : Dth) → mdq .0 ≤ 300000 → stepOf mdq ≤ 100
+step-le : (mdq : Dth) → mdq .0 ≤ 300000 → stepOf mdq ≤ 100
 unfolding stepOf
 step-le mdq h = omega arith
 
+-- a run that would be the third is a crossing, and starts anew
+run-within : (crossed counts : Bool) (run : ℕ) → (crossed ≡ false → counts && leb 2 run ≡ false) → cond crossed 0 (cond counts (run + 1) 0) ≤ 2
+run-within true counts run f = omega arith
+run-within false true run f = omega (arith, leb-false 2 run (f refl))
+run-within false false run f = omega arith
+
 module _ (s : Step) (m : Dth) where
-  pub pending-within : s .k ≤ 100 → 1 ≤ s .k → m .0 ≤ 300000 → (1 ≤ measured s m .pending) × (measured s m .pending ≤ 100)
+  pending-within : s .k ≤ 100 → 1 ≤ s .k → m .0 ≤ 300000 → (1 ≤ measured s m .pending) × (measured s m .pending ≤ 100)
   unfolding measured
   pending-within h l n =
       either (λ x. (1 ≤ x) × (x ≤ 100)) (crosses s m) (max 1 (stepOf m)) (s .k)
       (λ _. let b = step-le m n in omega arith)
       (λ _. omega arith)
 
-  -- a run that would be the third is a crossing, and starts anew
-  pub over-within : s .over ≤ 2 → measured s m .over ≤ 2
+  over-within : measured s m .over ≤ 2
   unfolding measured crosses
-  over-within h =
-      either (λ x. x ≤ 2) (crosses s m) 0 (cond (isOver s m) (s .over + 1) 0) (λ _. omega arith)
-      (λ e. either (λ x. x ≤ 2) (isOver s m) (s .over + 1) 0
-      (λ o. let below : leb 2 (s .over) ≡ false = rw o at (or-right (leb (3000 * s .k + 500) (m .0)) (isOver s m && leb 2 (s .over)) (or-left (leb (3000 * s .k + 500) (m .0) || (isOver s m && leb 2 (s .over))) (leb (m .0 + 500) (3000 * (s .k - 1))) (or-left (leb (3000 * s .k + 500) (m .0) || (isOver s m && leb 2 (s .over)) || leb (m .0 + 500) (3000 * (s .k - 1))) (isUnder s m && leb 2 (s .under)) e))) in
-      omega (arith, leb-false 2 (s .over) below))
-      (λ _. omega arith))
+  over-within = run-within (crosses s m) (isOver s m) (s .over) (λ e. search (or-left, or-right))
 
-  pub under-within : s .under ≤ 2 → measured s m .under ≤ 2
+  under-within : measured s m .under ≤ 2
   unfolding measured crosses
-  under-within h =
-      either (λ x. x ≤ 2) (crosses s m) 0 (cond (isUnder s m) (s .under + 1) 0) (λ _. omega arith)
-      (λ e. either (λ x. x ≤ 2) (isUnder s m) (s .under + 1) 0
-      (λ o. let below : leb 2 (s .under) ≡ false = rw o at (or-right (leb (3000 * s .k + 500) (m .0) || (isOver s m && leb 2 (s .over)) || leb (m .0 + 500) (3000 * (s .k - 1))) (isUnder s m && leb 2 (s .under)) e) in
-      omega (arith, leb-false 2 (s .under) below))
-      (λ _. omega arith))
+  under-within = run-within (crosses s m) (isUnder s m) (s .under) (λ e. search (or-left, or-right))
 
 -- ---- closings
 
@@ -108,7 +107,7 @@ forfeit-le m bcq bank =
     choice-le (size bank) (sameMonth m january) _ _ (excess-le bank (percent 65 bcq))
     (choice-le (size bank) (sameMonth m march) _ 0 (excess-le bank (percent 25 bcq)) (omega arith))
 
-pub cash-le : (m : Month) (excused : Bool) (bcq : Dth) (bank : Units) → bcq .0 ≤ 30000000 → size (cashOf m excused bcq bank) ≤ size bank + 3060000000
+cash-le : (m : Month) (excused : Bool) (bcq : Dth) (bank : Units) → bcq .0 ≤ 30000000 → size (cashOf m excused bcq bank) ≤ size bank + 3060000000
 unfolding cashOf
 cash-le m excused bcq bank h =
     either P (breaksV7 bank) (gap bank (percent (minimum m) bcq)) (cond (breaksV8 excused bcq bank) (gap bank (percent (maximum m) bcq)) nothing)
@@ -120,7 +119,7 @@ cash-le m excused bcq bank h =
     P : Units → Type 0
     P u = size u ≤ size bank + 3060000000
 
-pub mask-le : (v1 v2 v3 v4 v5 v6 v7 v8 : Bool) → maskOf v1 v2 v3 v4 v5 v6 v7 v8 ≤ 255
+mask-le : (v1 v2 v3 v4 v5 v6 v7 v8 : Bool) → maskOf v1 v2 v3 v4 v5 v6 v7 v8 ≤ 255
 unfolding maskOf
 mask-le v1 v2 v3 v4 v5 v6 v7 v8 =
     omega (
@@ -155,7 +154,7 @@ module _ (p : Prices) (q : Quantity) (h : pricesInRange p ≡ true) (l : q .0 �
   inventory-le = let b = price-bounds p h in charge-le (q .0) (p .inventory) 100 300000000000 100000 300000000000000 l (omega arith) (omega arith)
 
 module _ (t : Terms) (p : Prices) (mddq : Dth) (month : Totals) (ht : termsInRange t ≡ true) (hp : pricesInRange p ≡ true) (hm : mddq .0 ≤ 300000) (hu : month .usage .0 ≤ 100000000) where
-  pub bill-le : month .«cash_ins» .0 ≤ 300000000000 → month .«cash_outs» .0 ≤ 300000000000 → month .sales .0 ≤ 300000000000 → month .purchases .0 ≤ 300000000000 → sizeMills (billOf t p mddq month) ≤ 2000000000000000
+  bill-le : month .«cash_ins» .0 ≤ 300000000000 → month .«cash_outs» .0 ≤ 300000000000 → month .sales .0 ≤ 300000000000 → month .purchases .0 ≤ 300000000000 → sizeMills (billOf t p mddq month) ≤ 2000000000000000
   unfolding billOf
   bill-le h1 h2 h3 h4 =
       let b = terms-bounds t ht in
@@ -175,7 +174,7 @@ all-bounds =
       capacity = λ t k h l. (mddq-le t k h l, bcq-le t (mddqOf t k) h (mddq-le t k h l));
       delivery = retained-le;
       step = λ s m h l n. pending-within s m l h n;
-      runs = λ s m h l. (over-within s m h, under-within s m l);
+      runs = λ s m h l. (over-within s m, under-within s m);
       cash = cash-le;
       limit = limit-le;
       carry = carry-le;

@@ -1,10 +1,10 @@
--- Signed numbers: their sizes, and what the machine reads back of an i64.
+-- Signed numbers: their sizes, by cases of the sign, and what the machine reads back of an i64: the number itself while its size is below 2^63.
 use Prim.Native.Nat.{ℕ, zero, suc, _+_, _*_, _-_, _/_, _≤_, _<_, _^_, max}
 use mathlib.Core.Path.{_≡_, refl, sym, _∙_, subst}
 use mathlib.Core.Bool.{Bool, true, false, cond, _&&_}
 use native.Mathlib.Omega.{arith}
 use native.Mathlib.Numerals.{add-one}
-use native.Mathlib.Nat.{div-le-self, mul-le-mul}
+use native.Mathlib.Nat.{mul-le-mul}
 use lib.IntN.{ℤ, pos, negsuc, _+ℤ_, _-ℤ_, _*ℤ_, negℤ, natAbs, sucℤ, +ℤ-idl, +ℤ-one, negℤ-negℤ}
 use lib.Signed.{mag, ltZ, leZ, nonNeg, quotZ}
 use lib.Dec.{T, ltb}
@@ -30,14 +30,14 @@ size-neg (pos zero) = refl
 size-neg (pos (suc n)) = refl
 size-neg (negsuc n) = refl
 
-sub-size : (a b : ℕ) (t : Bool) → ltb a b ≡ t → natAbs (cond t (negsuc (b - suc a)) (pos (a - b))) ≤ a + b
-sub-size a b true h = omega (arith, ltb-true a b h)
-sub-size a b false h = omega arith
+sub-max : (a b : ℕ) (t : Bool) → ltb a b ≡ t → natAbs (cond t (negsuc (b - suc a)) (pos (a - b))) ≤ max a b
+sub-max a b true h = omega (arith, ltb-true a b h)
+sub-max a b false h = omega arith
 
 pub size-sum : (a b : ℤ) → natAbs (a +ℤ b) ≤ natAbs a + natAbs b
 size-sum (pos a) (pos b) = omega arith
-size-sum (pos a) (negsuc b) = sub-size a (suc b) (ltb a (suc b)) refl
-size-sum (negsuc a) (pos b) = omega (arith, sub-size b (suc a) (ltb b (suc a)) refl)
+size-sum (pos a) (negsuc b) = omega (arith, sub-max a (suc b) (ltb a (suc b)) refl)
+size-sum (negsuc a) (pos b) = omega (arith, sub-max b (suc a) (ltb b (suc a)) refl)
 size-sum (negsuc a) (negsuc b) = omega arith
 
 pub size-difference : (a b : ℤ) → natAbs (a -ℤ b) ≤ natAbs a + natAbs b
@@ -49,20 +49,10 @@ size-product (pos a) (negsuc b) = size-neg (pos (a * suc b))
 size-product (negsuc a) (pos b) = size-neg (pos (suc a * b))
 size-product (negsuc a) (negsuc b) = refl
 
-pub size-quotient : (a b : ℤ) → natAbs (quotZ a b) ≤ natAbs a
-size-quotient (pos a) (pos b) = div-le-self a b
-size-quotient (pos a) (negsuc b) = omega (arith, size-neg (pos (a / suc b)), div-le-self a (suc b))
-size-quotient (negsuc a) (pos b) = omega (arith, size-neg (pos (suc a / b)), div-le-self (suc a) b)
-size-quotient (negsuc a) (negsuc b) = div-le-self (suc a) (suc b)
-
 -- the quotient by a natural number, without its sign
 pub size-quotient-is : (a : ℤ) (n : ℕ) → natAbs (quotZ a (pos n)) ≡ natAbs a / n
 size-quotient-is (pos a) n = refl
 size-quotient-is (negsuc a) n = size-neg (pos (suc a / n))
-
-sub-max : (a b : ℕ) (t : Bool) → ltb a b ≡ t → natAbs (cond t (negsuc (b - suc a)) (pos (a - b))) ≤ max a b
-sub-max a b true h = omega (arith, ltb-true a b h)
-sub-max a b false h = omega arith
 
 -- two natural numbers differ by no more than the larger
 pub size-naturals : (a b : ℕ) → natAbs (pos a -ℤ pos b) ≤ max a b
@@ -119,7 +109,11 @@ module _ (n : ℕ) (h : n < 2 ^ 63) where
 
 -- ---- the positive part
 
-pub positive-none : (z : ℤ) → ltZ z (pos 0) ≡ true → positivePart z ≡ 0
+-- the machine's test of a sign is the number's
+pub sign : (z : ℤ) (t : Bool) → SFits w64 z → ltZ (toZ w64 (ofZ w64 z)) (pos 0) ≡ t → ltZ z (pos 0) ≡ t
+sign z t f h = rw (toZ-ofZ f) at h
+
+pub positive-none : (z : ℤ) → ltZ z (pos 0) ≡ true → 0 ≡ positivePart z
 unfolding positivePart
 positive-none (pos n) h = absurd (omega (arith, ltb-true n 0 h))
 positive-none (negsuc n) h = refl
@@ -133,24 +127,30 @@ pub not-negative : (z : ℤ) → ltZ z (pos 0) ≡ false → T (nonNeg z)
 not-negative (pos n) h = tt
 not-negative (negsuc n) h = absurd (subst T h tt)
 
--- a difference of two quantities, scaled by at most 10,000 and divided by it
+-- what the machine makes of (d − b) × k / 10,000, step by step
 module _ (d b k : ℕ) (hd : d ≤ 1000000000) (hb : b ≤ 1000000000) (hk : k ≤ 10000) where
-  scaled-size : natAbs ((pos d -ℤ pos b) *ℤ pos k) < 2 ^ 62
-  scaled-size =
+  product-is : toZ w64 (ofZ w64 (toZ w64 d -ℤ toZ w64 b)) *ℤ toZ w64 k ≡ (pos d -ℤ pos b) *ℤ pos k
+  product-is = rw (difference-read (pos d) (pos b) (omega arith), read-nat k (omega arith))
+
+  product-size : natAbs ((pos d -ℤ pos b) *ℤ pos k) < 2 ^ 62
+  product-size =
       let far : natAbs (pos d -ℤ pos b) ≤ 1000000000 = omega (arith, size-naturals d b) in
       omega (arith, size-product (pos d -ℤ pos b) (pos k), mul-le-mul far hk)
 
-  pub scaled-fits-in : SFits w64 ((pos d -ℤ pos b) *ℤ pos k)
-  scaled-fits-in = fits _ (omega (arith, scaled-size))
+  pub product-fits : SFits w64 (toZ w64 (ofZ w64 (toZ w64 d -ℤ toZ w64 b)) *ℤ toZ w64 k)
+  product-fits = rw product-is (fits _ (omega (arith, product-size)))
 
-  pub scaled-read : toZ w64 (ofZ w64 ((pos d -ℤ pos b) *ℤ pos k)) ≡ (pos d -ℤ pos b) *ℤ pos k
-  scaled-read = read ((pos d -ℤ pos b) *ℤ pos k) (omega (arith, scaled-size))
+  quotient-is : quotZ (toZ w64 (ofZ w64 (toZ w64 (ofZ w64 (toZ w64 d -ℤ toZ w64 b)) *ℤ toZ w64 k))) (pos 10000) ≡ quotZ ((pos d -ℤ pos b) *ℤ pos k) (pos 10000)
+  quotient-is = rw (product-is, read ((pos d -ℤ pos b) *ℤ pos k) (omega (arith, product-size)))
 
-  pub quotient-fits : SFits w64 (quotZ ((pos d -ℤ pos b) *ℤ pos k) (pos 10000))
-  quotient-fits = fits _ (omega (arith, scaled-size, size-quotient ((pos d -ℤ pos b) *ℤ pos k) (pos 10000)))
+  quotient-size : natAbs (quotZ ((pos d -ℤ pos b) *ℤ pos k) (pos 10000)) < 2 ^ 63
+  quotient-size = omega (arith, product-size, size-quotient-is ((pos d -ℤ pos b) *ℤ pos k) 10000)
 
-  pub quotient-read : toZ w64 (ofZ w64 (quotZ ((pos d -ℤ pos b) *ℤ pos k) (pos 10000))) ≡ quotZ ((pos d -ℤ pos b) *ℤ pos k) (pos 10000)
-  quotient-read = read _ (omega (arith, scaled-size, size-quotient ((pos d -ℤ pos b) *ℤ pos k) (pos 10000)))
+  pub quotient-fits : SFits w64 (quotZ (toZ w64 (ofZ w64 (toZ w64 (ofZ w64 (toZ w64 d -ℤ toZ w64 b)) *ℤ toZ w64 k))) (pos 10000))
+  quotient-fits = rw quotient-is (fits _ quotient-size)
+
+  pub quotient-read : toZ w64 (ofZ w64 (quotZ (toZ w64 (ofZ w64 (toZ w64 (ofZ w64 (toZ w64 d -ℤ toZ w64 b)) *ℤ toZ w64 k))) (pos 10000))) ≡ quotZ ((pos d -ℤ pos b) *ℤ pos k) (pos 10000)
+  quotient-read = rw quotient-is (read _ quotient-size)
 
 -- the opposite of a number below zero, by way of the next one up, which always has one
 module _ (z : ℤ) (f : SFits w64 z) (h : ltZ z (pos 0) ≡ true) where
@@ -189,7 +189,7 @@ module _ (z : ℤ) (f : SFits w64 z) (h : ltZ z (pos 0) ≡ true) where
       go (negsuc n) h = add-one n
 
 -- a number that is not below zero has nothing below it
-pub opposite-none : (z : ℤ) → ltZ z (pos 0) ≡ false → positivePart (negℤ z) ≡ 0
+pub opposite-none : (z : ℤ) → ltZ z (pos 0) ≡ false → 0 ≡ positivePart (negℤ z)
 unfolding positivePart
 opposite-none (pos zero) h = refl
 opposite-none (pos (suc n)) h = refl

@@ -1,4 +1,4 @@
--- The four tests of MEASURE, by steps instead of by 3,000 × k.
+-- The four tests of MEASURE, by steps instead of by 3,000 × k: a division that rounds the right way keeps each comparison.
 use Prim.Native.Nat.{ℕ, _+_, _*_, _-_, _/_, _≤_, _<_}
 use mathlib.Core.Path.{_≡_, refl, sym}
 use mathlib.Core.Bool.{Bool, true, false}

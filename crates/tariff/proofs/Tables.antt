@@ -19,9 +19,6 @@ entry-le n [] h i = omega arith
 entry-le n (x ∷ xs) h zero = leb-true x n (and-left (leb x n) (each (λ y. leb y n) xs) h)
 entry-le n (x ∷ xs) h (suc i) = entry-le n xs (and-right (leb x n) (each (λ y. leb y n) xs) h) i
 
-lt-of-le-ne : (i n : ℕ) → i < suc n → (i ≡ n → ⊥) → i < n
-lt-of-le-ne i n h d = omega arith
-
 -- a test of every number below n
 abbrev pub allBelow : (ℕ → Bool) → ℕ → Bool
 allBelow p zero = true
@@ -33,4 +30,4 @@ at-each p (suc n) h i l = go (eqb i n) refl (at-each p n (and-right (p n) (allBe
   where
     go : (t : Bool) → eqb i n ≡ t → (i < n → p i ≡ true) → p i ≡ true
     go true e k = rw (eqb-true i n e) (and-left (p n) (allBelow p n) h)
-    go false e k = k (lt-of-le-ne i n l (eqb-false i n e))
+    go false e k = k (omega (arith, eqb-false i n e))

@@ -1,30 +1,20 @@
-use mathlib.Core.Path.{sym, _∙_}
+-- Terms and prices are asked for their range before they are billed; the totals handed in are within what a bill allows.
+use mathlib.Core.Path.{_∙_, sym}
 use native.Mathlib.Omega.{arith}
-use borrow.Author.Tests.{not-false}
 use borrow.Author.Needs.{needs}
+use borrow.Author.Tests.{not-false}
 use Rattle.rates.proofs.bill.Statement.{statement}
 use Rattle.rates.proofs.bill.Tie as tie
 
 bill-requires : tie.Need-bill-requires
 bill-requires c κs =
-    let s = c .before .before .before .before in (
-      (
-        sym (c .before .before .before .in-range .ensures) ∙ not-false _ (c .before .before .if1 .left),
-        sym (c .before .in-range2 .ensures) ∙ not-false _ (c .if2 .left),
-      ),
-      (omega arith, (omega arith, omega arith)),
-    )
+    let terms : tie.After-in-range = search in
+    let prices : tie.After-in-range2 = search in
+    ((sym (terms .in-range .ensures) ∙ (search not-false), sym (prices .in-range2 .ensures) ∙ (search not-false)), (omega arith, (omega arith, omega arith)))
 
 pub bill-spec : {M : Type 1} → statement M
 bill-spec =
     tie.close
     (tie.spec
-    (λ c κs. search needs)
-    (λ c. search needs)
-    (λ c κs. search needs)
-    (λ c. search needs)
-    bill-requires
-    (λ c κs. search needs)
-    (λ c. search needs)
-    (λ c κs. search needs)
-    (λ c. search needs))
+    (search needs) (search needs) (search needs) (search needs) bill-requires (search needs) (search needs) (search needs)
+    (search needs))

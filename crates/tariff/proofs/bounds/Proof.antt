@@ -1,9 +1,7 @@
+-- Every bound of the record is a law proved of its definition.
 use Rattle.tariff.proofs.Results.{all-bounds}
 use Rattle.tariff.proofs.bounds.Statement.{statement}
 use Rattle.tariff.proofs.bounds.Tie as tie
 
-returns : tie.Need-returns
-returns c = all-bounds
-
 pub bounds-spec : {M : Type 1} → statement M
-bounds-spec = tie.close (tie.spec returns)
+bounds-spec = tie.close (tie.spec (λ c. all-bounds))

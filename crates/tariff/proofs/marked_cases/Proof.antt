@@ -1,4 +1,4 @@
--- Each case is computed.
+-- Each case is computed: the definitions, opened, give the numbers that the case states.
 use mathlib.Core.Path.{refl}
 use Rattle.tariff.specs.Amounts.{positivePart, inward, below, gap, percent}
 use Rattle.tariff.specs.Months.{april, november, december, sameMonth, gasMonth, mmbq, minimum}

@@ -1,49 +1,41 @@
+-- Below zero an account is brought up to its minimum, above its ceiling down to its maximum, else nothing moves.
+-- The bound is that of a gap: what is held and what it is brought to, together.
+use Prim.Native.Nat.{ℕ}
+use mathlib.Core.Bool.{Bool, true, false}
+use mathlib.Core.Path.{_≡_}
+use native.Mathlib.Omega.{arith}
 use borrow.Author.Needs.{needs}
-use mathlib.Core.Path.{_∙_, _≡_, sym}
-use mathlib.Core.Bool.{false, true}
-use Rattle.tariff.proofs.Results.{cash-le}
+use Rattle.tariff.proofs.Sizes.{size-nothing}
+use Rattle.tariff.specs.Amounts.{gap, nothing, percent}
 use Rattle.tariff.specs.Closing.{breaksV7, breaksV8, cashOf}
+use Rattle.tariff.specs.Months.{maximum, minimum}
+use Rattle.tariff.specs.declared.amounts.Dth.{Dth}
+use Rattle.tariff.specs.declared.amounts.Quantity.{Quantity}
+use Rattle.tariff.specs.declared.amounts.Units.{Units}
+use Rattle.tariff.specs.declared.months.Month.{Month}
 use Rattle.tariff.proofs.closing.cash.Statement.{statement}
 use Rattle.tariff.proofs.closing.cash.Tie as tie
 
-returns : tie.Need-returns
-unfolding cashOf
-returns c =
-    let s : tie.Start = search in
-    let low : breaksV7 (s .args .bank) ≡ true = sym (c .before .before .before .before .breaks-v7 .ensures) ∙ c .before .before .before .if1 .taken in
-    rw (c .gap .ensures .0, c .before .percent .ensures .0, c .before .before .minimum .ensures .0)
-    (rw low, rw low at (cash-le (s .args .m) (s .args .excused) (s .args .bcq) (s .args .bank) (s .pre .0)))
+-- the answer, by the tests in the code's order
+module _ (m : Month) (excused : Bool) (bcq : Dth) (bank r : Units) (p : ℕ) (q : Quantity) (to : q ≡ percent p bcq) (low : Bool) (l : low ≡ breaksV7 bank) where
+  brought-up : low ≡ true → p ≡ minimum m → r ≡ gap bank q → r ≡ cashOf m excused bcq bank
+  unfolding cashOf
+  brought-up t e g = cc
 
-returns-2 : tie.Need-returns-2
-unfolding cashOf
-returns-2 c =
-    let s : tie.Start = search in
-    let low : breaksV7 (s .args .bank) ≡ false = sym (c .before .before .before .before .before .before .breaks-v7 .ensures) ∙ c .before .before .before .before .before .if1 .left in
-    let high : breaksV8 (s .args .excused) (s .args .bcq) (s .args .bank) ≡ true = sym (c .before .before .before .before .breaks-v8 .ensures) ∙ c .before .before .before .if2 .taken in
-    rw (c .gap2 .ensures .0, c .before .percent2 .ensures .0, c .before .before .maximum .ensures .0)
-    (rw (low, high), rw (low, high) at (cash-le (s .args .m) (s .args .excused) (s .args .bcq) (s .args .bank) (s .pre .0)))
+  brought-down : low ≡ false → (high : Bool) → high ≡ breaksV8 excused bcq bank → high ≡ true → p ≡ maximum m → r ≡ gap bank q → r ≡ cashOf m excused bcq bank
+  unfolding cashOf
+  brought-down f high h t e g = cc
 
-returns-3 : tie.Need-returns-3
+unmoved : (m : Month) (excused : Bool) (bcq : Dth) (bank r : Units) (low high : Bool) → low ≡ breaksV7 bank → low ≡ false → high ≡ breaksV8 excused bcq bank → high ≡ false → r ≡ nothing → r ≡ cashOf m excused bcq bank
 unfolding cashOf
-returns-3 c =
-    let s : tie.Start = search in
-    let low : breaksV7 (s .args .bank) ≡ false = sym (c .before .before .before .before .breaks-v7 .ensures) ∙ c .before .before .before .if1 .left in
-    let high : breaksV8 (s .args .excused) (s .args .bcq) (s .args .bank) ≡ false = sym (c .before .before .breaks-v8 .ensures) ∙ c .before .if2 .left in
-    rw (c .nothing .ensures) (rw (low, high), rw (low, high) at (cash-le (s .args .m) (s .args .excused) (s .args .bcq) (s .args .bank) (s .pre .0)))
+unmoved m excused bcq bank r low high l f h k n = cc
 
 pub cash-spec : {M : Type 1} → statement M
 cash-spec =
     tie.close
     (tie.spec
-    (λ c κs. search needs)
-    (λ c κs. search needs)
-    (λ c κs. search needs)
-    (λ c κs. search needs)
-    returns
-    (λ c κs. search needs)
-    (λ c κs. search needs)
-    (λ c κs. search needs)
-    (λ c κs. search needs)
-    returns-2
-    (λ c κs. search needs)
-    returns-3)
+    (search needs)
+    (search needs) (search needs) (search needs) (λ c. (search brought-up, omega arith))
+    (search needs)
+    (search needs) (search needs) (search needs) (λ c. (search brought-down, omega arith))
+    (search needs) (λ c. (search unmoved, rw (c .nothing .ensures) (omega (arith, size-nothing)))))

@@ -1,13 +1,16 @@
+-- What is left of an amount after a quantity is taken off is never more than the amount.
+use Prim.Native.Nat.{_≤_}
 use borrow.Author.Needs.{needs}
-use mathlib.Core.Path.{refl}
+use Rattle.tariff.proofs.Results.{and-bound}
 use Rattle.tariff.proofs.Sizes.{excess-le}
+use Rattle.tariff.specs.Amounts.{size}
 use Rattle.tariff.specs.Closing.{excessOver}
 use Rattle.tariff.proofs.closing.excess.Statement.{statement}
 use Rattle.tariff.proofs.closing.excess.Tie as tie
 
 returns : tie.Need-returns
 unfolding excessOver
-returns c = rw (c .inward .ensures .0, c .before .less .ensures .0) (refl, excess-le (c .before .before .args .a) (c .before .before .args .q))
+returns c = let s : tie.Start = search in and-bound (λ left. left .0 ≤ size (s .args .a)) (cc) (search excess-le)
 
 pub excess-spec : {M : Type 1} → statement M
-excess-spec = tie.close (tie.spec (λ c κs. search needs) (λ c κs. search needs) returns)
+excess-spec = tie.close (tie.spec (search needs) (search needs) returns)

@@ -1,6 +1,8 @@
+-- January and March take what is above their percentage, and an excess is never above the bank itself.
+use Prim.Native.Nat.{_≤_}
 use borrow.Author.Needs.{needs}
-use mathlib.Core.Path.{refl}
-use Rattle.tariff.proofs.Results.{forfeit-le}
+use Rattle.tariff.proofs.Results.{and-bound, forfeit-le}
+use Rattle.tariff.specs.Amounts.{size}
 use Rattle.tariff.specs.Closing.{forfeitOf}
 use Rattle.tariff.specs.Months.{january, march}
 use Rattle.tariff.proofs.closing.forfeit.Statement.{statement}
@@ -8,28 +10,11 @@ use Rattle.tariff.proofs.closing.forfeit.Tie as tie
 
 returns : tie.Need-returns
 unfolding forfeitOf january march
-returns c = rw (
-  c .choose2 .ensures,
-  c .before .choose .ensures,
-  c .before .before .is2 .ensures,
-  c .before .before .before .is .ensures,
-  c .before .before .before .before .excess2 .ensures .0,
-  c .before .before .before .before .before .percent2 .ensures .0,
-  c .before .before .before .before .before .before .excess .ensures .0,
-  c .before .before .before .before .before .before .before .percent .ensures .0,
-)
-    (refl, forfeit-le (c .before .before .before .before .before .before .before .before .args .m) (c .before .before .before .before .before .before .before .before .args .bcq) (c .before .before .before .before .before .before .before .before .args .bank))
+returns c = let s : tie.Start = search in and-bound (λ taken. taken .0 ≤ size (s .args .bank)) (cc) (search forfeit-le)
 
 pub forfeit-spec : {M : Type 1} → statement M
 forfeit-spec =
     tie.close
     (tie.spec
-    (λ c κs. search needs)
-    (λ c κs. search needs)
-    (λ c κs. search needs)
-    (λ c κs. search needs)
-    (λ c κs. search needs)
-    (λ c κs. search needs)
-    (λ c κs. search needs)
-    (λ c κs. search needs)
+    (search needs) (search needs) (search needs) (search needs) (search needs) (search needs) (search needs) (search needs)
     returns)

@@ -1,22 +1,23 @@
+-- February has a length of its own; of the others the sum of the month and its eighth part is odd where the month has 31 days.
+use Prim.Native.Nat.{ℕ}
+use mathlib.Core.Bool.{Bool, true, false}
+use mathlib.Core.Path.{_≡_, _∙_, sym}
 use borrow.Author.Needs.{needs}
-use mathlib.Core.Path.{_∙_, sym}
 use Rattle.tariff.proofs.Calendar.{length-by-turns, lengths-are}
-use Rattle.tariff.specs.Dates.{monthLength}
+use Rattle.tariff.specs.Dates.{leap, monthLength}
+use Rattle.tariff.specs.declared.months.Month.{Month}
 use Rattle.tariff.proofs.dates.month_length.Statement.{statement}
 use Rattle.tariff.proofs.dates.month_length.Tie as tie
 
-returns : tie.Need-returns
-unfolding monthLength
-returns c = rw (c .before .before .if1 .taken, lengths-are (c .before .before .before .args .year), sym (c .before .leap .ensures) ∙ c .if2 .taken)
+module _ (year : ℕ) (m : Month) (february : m .0 ≡ 2) (b : Bool) (l : b ≡ leap year) where
+  long : b ≡ true → 29 ≡ monthLength year m
+  unfolding monthLength
+  long t = rw (february, lengths-are year, sym l ∙ t)
 
-returns-2 : tie.Need-returns-2
-unfolding monthLength
-returns-2 c = rw (c .before .before .if1 .taken, lengths-are (c .before .before .before .args .year), sym (c .before .leap .ensures) ∙ c .if2 .left)
-
-returns-3 : tie.Need-returns-3
-unfolding monthLength
-returns-3 c = length-by-turns (c .before .args .year) (c .before .args .month .0) (c .before .pre .0) (c .before .pre .1) (c .if1 .left)
+  short : b ≡ false → 28 ≡ monthLength year m
+  unfolding monthLength
+  short f = rw (february, lengths-are year, sym l ∙ f)
 
 pub month-length-spec : {M : Type 1} → statement M
-month-length-spec =
-    tie.close (tie.spec (λ c κs. search needs) returns returns-2 (λ c. search needs) (λ c. search needs) returns-3)
+unfolding monthLength
+month-length-spec = tie.close (tie.spec (search needs) (λ c. search long) (λ c. search short) (search needs) (search needs) (λ c. search length-by-turns))

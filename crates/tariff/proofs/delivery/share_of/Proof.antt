@@ -1,37 +1,18 @@
+-- The share falls with the bank: each test of the code is one row of the table, asked from the top.
+use Prim.Native.Nat.{_≤_}
 use borrow.Author.Needs.{needs}
-use mathlib.Core.Path.{refl}
-use Rattle.tariff.proofs.Results.{share-le}
+use Rattle.tariff.proofs.Results.{and-bound, share-le}
 use Rattle.tariff.specs.Delivery.{shareOf}
 use Rattle.tariff.proofs.delivery.share_of.Statement.{statement}
 use Rattle.tariff.proofs.delivery.share_of.Tie as tie
 
 returns : tie.Need-returns
 unfolding shareOf
-returns c = rw (
-  c .choose3 .ensures,
-  c .before .choose2 .ensures,
-  c .before .before .choose .ensures,
-  c .before .before .before .before .before .below3 .ensures,
-  c .before .before .before .before .before .before .percent3 .ensures .0,
-  c .before .before .before .before .before .before .before .below2 .ensures,
-  c .before .before .before .before .before .before .before .before .percent2 .ensures .0,
-  c .before .before .before .before .before .before .before .before .before .below .ensures,
-  c .before .before .before .before .before .before .before .before .before .before .percent .ensures .0,
-)
-    (refl, share-le (c .before .before .before .before .before .before .before .before .before .before .before .args .bank) (c .before .before .before .before .before .before .before .before .before .before .before .args .bcq) (c .before .before .before .before .before .before .before .before .before .before .before .args .back-cast) (c .before .before .before .before .before .before .before .before .before .before .before .args .mdq))
+returns c = and-bound (λ share. share ≤ 100) (cc) (search share-le)
 
 pub share-of-spec : {M : Type 1} → statement M
 share-of-spec =
     tie.close
     (tie.spec
-    (λ c κs. search needs)
-    (λ c κs. search needs)
-    (λ c κs. search needs)
-    (λ c κs. search needs)
-    (λ c κs. search needs)
-    (λ c κs. search needs)
-    (λ c. search needs)
-    (λ c κs. search needs)
-    (λ c κs. search needs)
-    (λ c κs. search needs)
-    returns)
+    (search needs) (search needs) (search needs) (search needs) (search needs) (search needs) (search needs) (search needs)
+    (search needs) (search needs) returns)

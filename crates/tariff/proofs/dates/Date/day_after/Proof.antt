@@ -1,38 +1,21 @@
-use borrow.Author.Needs.{needs}
+-- A real date has at most 31 days and a year up to 2099, so one more fits; the choices are those of the definition.
+use Prim.Native.Nat.{_≤_}
 use native.Mathlib.Omega.{arith}
+use borrow.Author.Needs.{needs}
 use Rattle.tariff.proofs.Calendar.{month-length-le}
-use Rattle.tariff.proofs.Ranges.{date-bounds}
-use Rattle.tariff.specs.Dates.{dayAfter}
+use Rattle.tariff.proofs.Ranges.{DateBounds, date-bounds}
+use Rattle.tariff.specs.Dates.{dayAfter, monthLength}
 use Rattle.tariff.specs.Months.{december}
 use Rattle.tariff.proofs.dates.Date.day_after.Statement.{statement}
 use Rattle.tariff.proofs.dates.Date.day_after.Tie as tie
 
-add-choose : tie.Need-add-choose
-add-choose c = let s : tie.Start = search in let b = date-bounds (s .args .self) (s .pre) in omega arith
-
-add-choose-3 : tie.Need-add-choose-3
-add-choose-3 c = let s : tie.Start = search in let b = date-bounds (s .args .self) (s .pre) in omega (arith, month-length-le (s .args .self .year) (s .args .self .month))
-
-returns : tie.Need-returns
-unfolding dayAfter december
-returns c = rw (
-  c .choose3 .ensures,
-  c .before .before .choose2 .ensures,
-  c .before .before .before .before .choose .ensures,
-  c .before .before .before .before .before .before .is .ensures,
-  c .before .before .before .before .before .before .before .last-of-month .ensures,
-)
+bounds : (s : tie.Start) → DateBounds (s .args .self) × (monthLength (s .args .self .year) (s .args .self .month) ≤ 31)
+bounds s = (date-bounds (s .args .self) (s .pre), month-length-le (s .args .self .year) (s .args .self .month))
 
 pub day-after-spec : {M : Type 1} → statement M
+unfolding dayAfter december
 day-after-spec =
     tie.close
     (tie.spec
-    (λ c κs. search needs)
-    (λ c κs. search needs)
-    add-choose
-    (λ c κs. search needs)
-    (λ c. search needs)
-    (λ c κs. search needs)
-    add-choose-3
-    (λ c κs. search needs)
-    returns)
+    (λ c κs. search needs) (search needs) (λ c. omega (arith, bounds (search))) (search needs) (search needs) (search needs)
+    (λ c. omega (arith, bounds (search))) (search needs) (λ c. cc))

@@ -1,27 +1,29 @@
-use borrow.Author.Tests.{leb-true, not-true, not-false}
-use mathlib.Core.Bool.{_&&_}
+-- A month out of 1 to 12 ends it; within, the month has a length, and the day is compared with that.
+use mathlib.Core.Bool.{Bool, false, true, _&&_}
+use mathlib.Core.Path.{_≡_}
 use lib.Dec.{leb}
-use Rattle.tariff.proofs.Bools.{and-left, and-right}
-use Rattle.tariff.specs.Amounts.{within}
+use borrow.Author.Tests.{leb-true, not-false, not-true}
+use Rattle.tariff.proofs.Bools.{parts}
 use Rattle.tariff.specs.Dates.{real}
+use Rattle.tariff.specs.declared.dates.Date.{Date}
 use Rattle.tariff.proofs.dates.Date.real.Statement.{statement}
 use Rattle.tariff.proofs.dates.Date.real.Tie as tie
 
+-- the first test, at which the code may end
+abbrev inYear : Date → Bool
+inYear d = leb 1 (d .month .0) && leb (d .month .0) 12
+
 returns : tie.Need-returns
 unfolding real
-returns c = let s : tie.Start = search in rw (not-true (leb 1 (s .args .self .month .0) && leb (s .args .self .month .0) 12) (c .if1 .taken))
-
-month-length-requires : tie.Need-month-length-requires
-month-length-requires c κs =
-    let s : tie.Start = search in
-    let within = not-false (leb 1 (s .args .self .month .0) && leb (s .args .self .month .0) 12) (c .if1 .left) in (
-      leb-true 1 (s .args .self .month .0) (and-left (leb 1 (s .args .self .month .0)) (leb (s .args .self .month .0) 12) within),
-      leb-true (s .args .self .month .0) 12 (and-right (leb 1 (s .args .self .month .0)) (leb (s .args .self .month .0) 12) within),
-    )
+returns c = let s : tie.Start = search in let out : inYear (s .args .self) ≡ false = search not-true in rw out
 
 returns-2 : tie.Need-returns-2
 unfolding real
-returns-2 c = let s : tie.Start = search in rw (c .before .before .before .before .month-length .ensures, not-false (leb 1 (s .args .self .month .0) && leb (s .args .self .month .0) 12) (c .before .before .before .before .before .if1 .left))
+returns-2 c =
+    let s : tie.Start = search in
+    let length : tie.After-month-length = search in
+    let within : inYear (s .args .self) ≡ true = search not-false in
+    rw (length .month-length .ensures, within)
 
 pub real-spec : {M : Type 1} → statement M
-real-spec = tie.close (tie.spec returns month-length-requires returns-2)
+real-spec = tie.close (tie.spec returns (λ c κs. search (parts, leb-true, not-false)) returns-2)

@@ -1,25 +1,23 @@
-use native.Mathlib.Omega.{arith}
-use native.Mathlib.Nat.{mul-le-mul}
+-- Terms in range keep each factor small and the no-notice quantity above 0, so the product fits and can be divided.
+use Prim.Native.Nat.{_*_, _≤_}
 use mathlib.Core.Path.{refl}
-use Prim.Native.Nat.{_≤_}
-use Rattle.tariff.proofs.Ranges.{bcq-le, terms-bounds}
+use native.Mathlib.Nat.{mul-le-mul}
+use native.Mathlib.Omega.{arith}
+use Rattle.tariff.proofs.Ranges.{TermsBounds, bcq-le, terms-bounds}
+use Rattle.tariff.proofs.Results.{and-bound}
 use Rattle.tariff.specs.Terms.{bcqOf}
 use Rattle.tariff.proofs.terms.Terms.bcq.Statement.{statement}
 use Rattle.tariff.proofs.terms.Terms.bcq.Tie as tie
 
-mul-t3 : tie.Need-mul-t3
-mul-t3 c =
-    let s : tie.Start = search in
+bounds : (s : tie.Start) → TermsBounds (s .args .self) × (s .args .mddq .0 * s .args .self .storage .0 ≤ 300000 * 1000000000)
+bounds s =
     let b = terms-bounds (s .args .self) (s .pre .0) in
     let stored : s .args .self .storage .0 ≤ 1000000000 = omega arith in
-    omega (arith, mul-le-mul (s .pre .1) stored)
-
-div-t4 : tie.Need-div-t4
-div-t4 c = let b = terms-bounds (c .before .before .before .args .self) (c .before .before .before .pre .0) in omega arith
+    (b, mul-le-mul (s .pre .1) stored)
 
 returns : tie.Need-returns
 unfolding bcqOf
-returns c = (refl, bcq-le (c .before .before .before .args .self) (c .before .before .before .args .mddq) (c .before .before .before .pre .0) (c .before .before .before .pre .1))
+returns c = and-bound (λ bcq. bcq .0 ≤ 30000000) refl (search bcq-le)
 
 pub bcq-spec : {M : Type 1} → statement M
-bcq-spec = tie.close (tie.spec mul-t3 div-t4 returns)
+bcq-spec = tie.close (tie.spec (λ c. omega (arith, bounds (search))) (λ c. omega (arith, bounds (search))) returns)

@@ -1,25 +1,24 @@
-use borrow.Author.Needs.{needs}
-use native.Mathlib.Omega.{arith}
-use native.Mathlib.Nat.{mul-le-mul}
-use mathlib.Core.Path.{refl}
+-- Terms in range keep each factor small and the design day above 0, so the product fits and can be divided.
 use Prim.Native.Nat.{_*_, _≤_}
-use Rattle.tariff.proofs.Ranges.{mddq-le, terms-bounds}
+use mathlib.Core.Path.{refl}
+use native.Mathlib.Nat.{mul-le-mul}
+use native.Mathlib.Omega.{arith}
+use borrow.Author.Needs.{needs}
+use Rattle.tariff.proofs.Ranges.{TermsBounds, mddq-le, terms-bounds}
+use Rattle.tariff.proofs.Results.{and-bound}
 use Rattle.tariff.specs.Terms.{mddqOf}
 use Rattle.tariff.proofs.terms.Terms.mddq.Statement.{statement}
 use Rattle.tariff.proofs.terms.Terms.mddq.Tie as tie
 
-mul-t4 : tie.Need-mul-t4
-mul-t4 c =
-    let b = terms-bounds (c .before .args .self) (c .before .pre .0) in
-    let steps : 3000 * c .before .args .k ≤ 300000 = omega arith in
-    omega (arith, mul-le-mul steps (b .no-notice .1))
-
-div-t5 : tie.Need-div-t5
-div-t5 c = let b = terms-bounds (c .before .before .args .self) (c .before .before .pre .0) in omega arith
+bounds : (s : tie.Start) → TermsBounds (s .args .self) × (3000 * s .args .k * s .args .self .«no_notice» .0 ≤ 300000 * 10000000)
+bounds s =
+    let b = terms-bounds (s .args .self) (s .pre .0) in
+    let steps : 3000 * s .args .k ≤ 300000 = omega arith in
+    (b, mul-le-mul steps (b .no-notice .1))
 
 returns : tie.Need-returns
 unfolding mddqOf
-returns c = (refl, mddq-le (c .before .before .args .self) (c .before .before .args .k) (c .before .before .pre .0) (c .before .before .pre .1))
+returns c = and-bound (λ mddq. mddq .0 ≤ 300000) refl (search mddq-le)
 
 pub mddq-spec : {M : Type 1} → statement M
-mddq-spec = tie.close (tie.spec (λ c. search needs) mul-t4 div-t5 returns)
+mddq-spec = tie.close (tie.spec (search needs) (λ c. omega (arith, bounds (search))) (λ c. omega (arith, bounds (search))) returns)
