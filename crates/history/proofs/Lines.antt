@@ -1,14 +1,13 @@
 -- What the sums count of a line is what the ledger says that its posting adds: both are told by the kind, and agree for every number that a kind can be.
 use Prim.Native.Nat.{ℕ, _<_}
 use mathlib.Core.Path.{_≡_, refl, sym, ap, _∙_}
-use mathlib.Core.Bool.{Bool, true, false, cond, not, _&&_, _||_}
+use mathlib.Core.Bool.{Bool, true, false, cond, not, _&&_}
 use mathlib.Core.List.{List}
 use lib.Dec.{eqb}
 use lib.IntN.{ℤ, pos, negℤ, _-ℤ_, +ℤ-idl, +ℤ-idr, +ℤ-negℤ-cancel}
 use lib.ListN.{getD}
 use borrow.Author.Tests.{eqb-true, ne-eqb}
 use Rattle.tariff.specs.Amounts.{inward, outward}
-use Rattle.tariff.specs.declared.amounts.Units.{Units}
 use Rattle.ledger.specs.Entries.{entryOf, companySells}
 use Rattle.ledger.specs.Answers.{quiet}
 use Rattle.ledger.specs.Deliver.{amountUnder}
@@ -19,7 +18,7 @@ use Rattle.ledger.specs.declared.entries.Entry.{Entry}
 use Rattle.ledger.proofs.ClosedAccounts.{quiet-in, quiet-out, quiet-forfeit, quiet-bill, quiet-mask}
 use Rattle.ledger.proofs.OneStep.{gainAt, reportAt}
 use Rattle.history.specs.History.{entry, Known, start, Term, total, byA, byB, openedWith, deliveredTo, soldTo, boughtFrom, transferredTo, transferredFrom, closes, reported, cashedIn, cashedOut, forfeited, billed, violated, bankSum, ofAll, figureSum, OnlyClosingsCount}
-use Rattle.history.proofs.Sums.{chain, total-chain, over-cong, over-chain, only-one}
+use Rattle.history.proofs.Sums.{chain, total-chain, over-chain, only-one}
 
 -- what a line moves for account i, and for all accounts together where its transfers balance
 unfoldable pub moved : ℕ → Term
@@ -63,8 +62,7 @@ no-report i x d8 d9 = ap (λ (t : Bool). cond t (getD (x .answer .reports) i qui
 pub only-closings-count : OnlyClosingsCount
 unfolding cashedIn cashedOut forfeited billed violated
 only-closings-count i k x d8 d9 =
-    let none = no-report i x d8 d9 in
-    (
+    let none = no-report i x d8 d9 in (
       ap (λ (r : Report). pos (inward (r .cash) .0)) none ∙ ap pos quiet-in,
       ap (λ (r : Report). pos (outward (r .cash) .0)) none ∙ ap pos quiet-out,
       ap (λ (r : Report). pos (r .forfeit .0)) none ∙ ap pos quiet-forfeit,

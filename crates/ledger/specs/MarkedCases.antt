@@ -120,3 +120,5 @@ pub record MarkedCases : Type 0 where
   pub case8 : (bankBy 0 1016 ≡ negsuc 999) × (reportAfter overdrawnApril (closeMonth 3000 3000 0 100) .bill .0 ≡ pos 34100)
   -- "April 2026 is measured on the 27th."
   pub case9 : (numberAfter upToThe27th (measure 27 4200) ≡ 0) × (numberAfter (begun 0 ++ quietDays 1 23) (measure 24 4200) ≡ 23)
+  -- no marked case: a day on which nothing is broken reports nothing, so no cash is made up
+  pub quietDay : reportAfter (begun 1000 ++ deliver 1 0 0 ∷ []) (closeDay 1) ≡ quiet

@@ -10,6 +10,7 @@ use printing::mills;
 use printing::number;
 use printing::text;
 use printing::units;
+use tariff::amounts::Charge;
 use tariff::amounts::Dth;
 use tariff::amounts::Mcf;
 use tariff::amounts::Mills;
@@ -74,11 +75,11 @@ fn units_of(bits: u64) -> Units {
 
 fn mills_of(bits: u64) -> Mills {
     if bits < 9223372036854775808 {
-        return Mills::nothing().charged(bits);
+        return Mills::nothing().charged(Charge(bits));
     }
     let below = 18446744073709551615 - bits;
     if below < 9223372036854775807 {
-        return Mills::nothing().credited(below + 1);
+        return Mills::nothing().credited(Charge(below + 1));
     }
     Mills(-9223372036854775807 - 1)
 }

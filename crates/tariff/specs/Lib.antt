@@ -8,6 +8,5 @@ pub mod Limits
 pub mod Steps
 pub mod Closing
 pub mod Bill
-pub mod Bounds
 pub mod Calendar
 pub mod MarkedCases

@@ -3,13 +3,13 @@ use Prim.Native.Nat.{ℕ}
 use mathlib.Core.Path.{_≡_}
 use mathlib.Core.Bool.{true, false}
 use lib.IntN.{pos, negsuc}
-use Rattle.tariff.specs.Months.{april}
+use Rattle.tariff.specs.Months.{february, march, april}
 use Rattle.tariff.specs.Dates.{measurementDay}
 use Rattle.tariff.specs.Terms.{termsInRange, capacityOf}
 use Rattle.tariff.specs.Enrol.{staysOnFbs, openingTooHigh}
 use Rattle.tariff.specs.Delivery.{retained, breaksV1, shareOf}
 use Rattle.tariff.specs.Steps.{stepOf, measured}
-use Rattle.tariff.specs.Closing.{cashOf}
+use Rattle.tariff.specs.Closing.{cashOf, carryOf}
 use Rattle.tariff.specs.Bill.{cashInCharge}
 use Rattle.tariff.specs.declared.amounts.Dth.{Dth}
 use Rattle.tariff.specs.declared.amounts.Quantity.{Quantity}
@@ -39,9 +39,12 @@ quantity n = record { 0 = n }
 abbrev pub bank : ℕ → Units
 bank n = record { 0 = pos n }
 
--- −1
+-- −1 and −1,000
 abbrev pub minusOne : Units
 minusOne = record { 0 = negsuc 0 }
+
+abbrev pub minusThousand : Units
+minusThousand = record { 0 = negsuc 999 }
 
 -- a step k with no run begun
 abbrev pub atStep : ℕ → Step
@@ -81,6 +84,8 @@ pub record MarkedCases : Type 0 where
   -- "Bank −1 in April: cash 1."
   pub case7 : cashOf april false (dth 62505) minusOne ≡ bank 1
   -- "1,000 units at W 3,000, H + E 3,100: 34,100 mills."
-  pub case8 : cashInCharge markedPrices (quantity 1000) ≡ 34100
+  pub case8 : cashInCharge markedPrices (quantity 1000) ≡ record { 0 = 34100 }
   -- "April 2026 is measured on the 27th."
   pub case9 : measurementDay 2026 april ≡ 27
+  -- no marked case, but a mistake to shut out: February's excess of withdrawals is carried on, March's is not
+  pub carry : (carryOf february (quantity 400) minusThousand ≡ quantity 600) × (carryOf march (quantity 400) minusThousand ≡ quantity 0)

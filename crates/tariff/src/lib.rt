@@ -11,7 +11,6 @@ pub mod months;
 pub mod steps;
 pub mod terms;
 
-ghost use Rattle.tariff.specs.Bounds.{Bounds};
 ghost use Rattle.tariff.specs.Calendar.{RightDays};
 ghost use Rattle.tariff.specs.MarkedCases.{MarkedCases};
 
@@ -23,9 +22,4 @@ pub fn marked_cases()
 // The day after a date is the right one, from 1 January 2000 to 30 December 2099.
 pub fn right_days()
     ensures { λ r. ⌜ RightDays ⌝ }
-{}
-
-// What the layers above may count on when they add results up.
-pub fn bounds()
-    ensures { λ r. ⌜ Bounds ⌝ }
 {}

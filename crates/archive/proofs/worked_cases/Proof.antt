@@ -1,7 +1,7 @@
 -- Every case but one is computed from the definitions. A list of 1,201 closings is too long for that: each of its entries is a section of its own, whatever their number.
 use Prim.Native.Nat.{ℕ, zero, suc, _+_, _*_, _/_, _%_, _<_}
 use mathlib.Core.Path.{_≡_, refl, ap, _∙_}
-use mathlib.Core.List.{List, [], _∷_, map}
+use mathlib.Core.List.{List, _∷_, map}
 use native.Mathlib.Omega.{arith}
 use borrow.Author.Tests.{lt-ltb}
 use lib.ListN.{length, replicate, length-replicate}
@@ -28,7 +28,7 @@ use Rattle.archive.specs.Layout.{joined, sectionsOf, together, header, d
 use Rattle.archive.specs.Writing.{listChecked, tooLarge, unwritten, written, outputAfter}
 use Rattle.archive.specs.Reading.{sectionCount, rightOpening, wrongHeader, pairAt, pairsFrom, pairsOf, rightLength, rightPairs, rightDirectory, partAt, partsOf, misplaced, numberIn, numbersIn, numbersOf, checked, nowhere, placeOf, sectionAt, listOf}
 use Rattle.archive.specs.Replay.{heldBy, countOf, asAccepted, asRefused, replayed, figuresOf}
-use Rattle.archive.specs.WorkedCases.{closings, list, archive, WorkedCases}
+use Rattle.archive.specs.WorkedCases.{closings, WorkedCases}
 use Rattle.ledger.specs.MarkedCases.{closeMonth}
 use Rattle.archive.proofs.worked_cases.Statement.{statement}
 use Rattle.archive.proofs.worked_cases.Tie as tie

@@ -43,6 +43,7 @@ all-nine =
       case7 = (refl, refl);
       case8 = (refl, refl);
       case9 = (refl, refl);
+      quietDay = refl;
     }
 
 pub marked-cases-spec : {M : Type 1} → statement M
