@@ -33,11 +33,12 @@ fn delivered(m: Month, a: Account, amount: Units, back_cast: Quantity) -> Accoun
     let mut month = a.month;
     let net = month.net;
     let mut marks = a.marks;
+    let banked = bank.plus(amount);
+    let moved = net.plus(amount);
+    // The share looks at the bank before the delivery.
     let share = share_of(bank, bcq, back_cast, mdq);
     let v1 = breaks_v1(m, bcq, amount);
     let v2 = breaks_v2(share, mddq, amount);
-    let banked = bank.plus(amount);
-    let moved = net.plus(amount);
     month.net = moved;
     marks.delivered = true;
     marks.v1 = v1;

@@ -16,15 +16,16 @@ returns c =
     let v1 : tie.After-breaks-v1 = search in
     let v2 : tie.After-breaks-v2 = search in
     let bank : tie.After-plus = search in
-    rw (c .plus2 .ensures .0, bank .plus .ensures .0, v2 .breaks-v2 .ensures, v1 .breaks-v1 .ensures, share .share-of .ensures .0)
+    let net : tie.After-plus2 = search in
+    rw (net .plus2 .ensures .0, bank .plus .ensures .0, v2 .breaks-v2 .ensures, v1 .breaks-v1 .ensures, share .share-of .ensures .0)
 
 pub delivered-spec : {M : Type 1} → statement M
 delivered-spec =
     tie.close
     (tie.spec
-    (λ c κs. search (known (search)))
-    (λ c κs. search (known (search)))
-    (λ c κs. search (known (search)))
     (λ c κs. omega (arith, known (search)))
     (λ c κs. omega (arith, known (search)))
+    (λ c κs. search (known (search)))
+    (λ c κs. search (known (search)))
+    (λ c κs. search (known (search)))
     returns)
