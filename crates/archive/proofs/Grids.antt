@@ -90,9 +90,6 @@ module _ (bank : ℕ → Units) where
     pub same-columns : (p q : ℕ → Bool) → ((m : ℕ) → p m ≡ q m) → grid (λ i m. cond (p m) (bank i) (f i m)) ≡ grid (λ i m. cond (q m) (bank i) (f i m))
     same-columns p q h = same-grid (λ i m. cond (p m) (bank i) (f i m)) (λ i m. cond (q m) (bank i) (f i m)) (λ i m k l. ap (λ b. cond b (bank i) (f i m)) (h m))
 
-    pub no-column : (p : ℕ → Bool) → ((m : ℕ) → p m ≡ false) → grid f ≡ grid (λ i m. cond (p m) (bank i) (f i m))
-    no-column p h = same-columns (λ m. false) p (λ m. sym (h m))
-
     -- the first so many rows have it
     abbrev pub filled : ℕ → ℕ → ℕ → ℕ → Units
     filled month n i m = cond (ltb i n && eqb month m) (bank i) (f i m)

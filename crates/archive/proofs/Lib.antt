@@ -14,7 +14,6 @@ pub mod Stretches
 pub mod Acceptance
 pub mod Packing
 pub mod Trips
-pub mod EntryPlaces
 pub mod Grids
 pub mod Replays
 pub mod ArchiveSizes

@@ -48,14 +48,6 @@ no-files a = refl
 
 -- ---- one section's turn
 
-pub part-read : (a : List ℕ) (i o l : ℕ) → _≡_ {A = Pair} (o, l) (pairAt a i) → take (o + l - o) (drop o a) ≡ partAt a (pairAt a i)
-unfolding partAt
-part-read a i o l p = ap (λ (n : ℕ). take n (drop o a)) (add-sub-cancel-left o l) ∙ ap (partAt a) p
-
-pub length-part : (a : List ℕ) (o l : ℕ) → o + l ≤ length a → length (take (o + l - o) (drop o a)) ≡ l
-length-part a o l h =
-    ap (λ (n : ℕ). length (take n (drop o a))) (add-sub-cancel-left o l) ∙ length-take-le l (drop o a) (rw length-drop (omega arith))
-
 module _ (a : List ℕ) (n i first : ℕ) (h : i < n) (r : Checked) where
   abbrev here : List ℕ
   here = numbersIn (eqb (i + 1) n) (entriesOf (partAt a (pairAt a i)))

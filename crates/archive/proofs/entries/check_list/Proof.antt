@@ -1,13 +1,15 @@
+-- At entry k, the entries from k on have the first refusal of all: the entry's own number is it, or the rest's is.
 use borrow.Author.Needs.{needs}
 use native.Mathlib.Omega.{arith}
-use Prim.Native.Nat.{_+_, _*_, _-_, _/_, _≤_}
-use mathlib.Core.List.{map}
-use mathlib.Core.Path.{_≡_, refl, sym, ap, _∙_}
+use Prim.Native.Nat.{ℕ, _+_, _*_, _-_, _/_, _<_, _≤_}
+use mathlib.Core.List.{List, map}
+use mathlib.Core.Path.{_≡_, refl}
 use lib.ListN.{length, drop, take}
 use Rattle.ledger.specs.Entries.{formNumber}
 use Rattle.archive.specs.Writing.{listChecked}
 use Rattle.archive.specs.Entries.{entriesOf, firstEntries, finding, firstRefusal}
-use Rattle.archive.proofs.Findings.{refusal-none, refusal-here, refusal-later}
+use Rattle.archive.specs.declared.entries.Checked.{Checked}
+use Rattle.archive.proofs.Findings.{refusal-here, refusal-later}
 use Rattle.archive.proofs.EntryLists.{entries-next, entries-none}
 use Rattle.archive.proofs.entries.check_list.Statement.{statement}
 use Rattle.archive.proofs.entries.check_list.Tie as tie
@@ -18,49 +20,28 @@ Inv-loop list n k₀ k = (k ≤ n) × (n ≡ length list / 32) × (firstRefusal 
 abbrev μ-loop : tie.MeasureT-loop
 μ-loop list n k₀ k = n - k
 
+module _ (s : List ℕ) (n k : ℕ) (rest : firstRefusal k (map formNumber (firstEntries (n - k) (drop (32 * k) s))) ≡ listChecked s) where
+  none-refused : n ≤ k → record { number = 0; index = 0 } ≡ listChecked s
+  unfolding finding firstRefusal
+  none-refused h = rw (entries-none n k (drop (32 * k) s) h) at rest
+
+  module _ (more : k < n) (m : ℕ) (e : m ≡ formNumber (take (32 * k + 32 - 32 * k) (drop (32 * k) s))) where
+    abbrev later : List ℕ
+    later = map formNumber (firstEntries (n - (k + 1)) (drop (32 * (k + 1)) s))
+
+    refused-here : (m ≡ 0 → ⊥) → record { number = m; index = k } ≡ listChecked s
+    unfolding finding
+    refused-here d = cc (rw (entries-next n k s more) at rest, refusal-here k m later d)
+
+    refused-later : m ≡ 0 → firstRefusal (k + 1) later ≡ listChecked s
+    refused-later z = cc (rw (entries-next n k s more) at rest, refusal-later k m later z)
+
 loop-holds : tie.Need-loop-holds Inv-loop μ-loop
 unfolding entriesOf listChecked
 loop-holds c =
-    let s = c .before .args .list .now in
-    let z : length s / 32 - 0 ≡ length s / 32 = omega arith in
+    let s : tie.Start Inv-loop μ-loop = search in
+    let z : length (s .args .list .now) / 32 - 0 ≡ length (s .args .list .now) / 32 = omega arith in
     (search needs, refl, rw z)
-
-returns : tie.Need-returns Inv-loop μ-loop
-unfolding finding
-returns c =
-    let l = c .before .before .before .before in
-    let s = l .before .before .args .list .now in
-    let k = l .loop .k in
-    let e = take (32 * k + 32 - 32 * k) (drop (32 * k) s) in
-    let es = firstEntries (length s / 32 - (k + 1)) (drop (32 * (k + 1)) s) in
-    let number = c .before .entry-number .ensures in
-    ap (λ n. finding n k) number
-    ∙ sym (refusal-here k (formNumber e) (map formNumber es) (λ z. c .if1 .taken (number ∙ z)))
-    ∙ ap (λ xs. firstRefusal k (map formNumber xs)) (sym (entries-next (length s / 32) k s (omega arith)))
-    ∙ l .loop .inv .2
-
-loop-again : tie.Need-loop-again Inv-loop μ-loop
-loop-again c =
-    let l = c .before .before .before .before in
-    let s = l .before .before .args .list .now in
-    let k = l .loop .k in
-    let e = take (32 * k + 32 - 32 * k) (drop (32 * k) s) in
-    let es = firstEntries (length s / 32 - (k + 1)) (drop (32 * (k + 1)) s) in (
-      omega arith,
-      refl,
-      sym (refusal-later k (formNumber e) (map formNumber es) (sym (c .before .entry-number .ensures) ∙ c .if1 .left))
-          ∙ ap (λ xs. firstRefusal k (map formNumber xs)) (sym (entries-next (length s / 32) k s (omega arith)))
-          ∙ l .loop .inv .2,
-    )
-
-returns-2 : tie.Need-returns-2 Inv-loop μ-loop
-unfolding finding
-returns-2 c =
-    let l = c .before in
-    let s = l .before .before .args .list .now in
-    sym (refusal-none (l .loop .k))
-    ∙ ap (λ xs. firstRefusal (l .loop .k) (map formNumber xs)) (sym (entries-none (length s / 32) (l .loop .k) (drop (32 * l .loop .k) s) (omega arith)))
-    ∙ l .loop .inv .2
 
 pub check-list-spec : {M : Type 1} → statement M
 check-list-spec =
@@ -75,8 +56,8 @@ check-list-spec =
     (λ c. search needs)
     (λ c. search needs)
     (λ c κs. search needs)
-    returns
+    (λ c. search refused-here)
     (λ c. search needs)
     (λ c. search needs)
-    loop-again
-    returns-2)
+    (λ c. let v : tie.At-loop Inv-loop μ-loop = search in (omega arith, refl, search (refused-later _ _ _ (v .loop .inv .2))))
+    (λ c. search none-refused))

@@ -1,3 +1,4 @@
+-- Where eight bytes are there, the code asks of them what number 8 asks, in the same order.
 use borrow.Author.Tests.{lt-ltb, le-ltb}
 use borrow.Author.Needs.{needs}
 use lib.ListN.{length}
@@ -8,11 +9,15 @@ use Rattle.archive.proofs.reading.wrong_header.Tie as tie
 
 returns : tie.Need-returns
 unfolding wrongHeader
-returns c = rw (lt-ltb (length (c .before .before .args .archive .now)) 8 (c .if1 .taken))
+returns c = let s : tie.Start = search in rw (lt-ltb (length (s .args .archive .now)) 8 (search))
 
 returns-2 : tie.Need-returns-2
 unfolding wrongHeader bodyAt
-returns-2 c = rw (c .before .before .right-opening .ensures, c .before .before .before .section-count .ensures .0, le-ltb (length (c .before .before .before .before .before .before .args .archive .now)) 8 (c .before .before .before .before .if1 .left))
+returns-2 c =
+    let s : tie.Start = search in
+    let n : tie.After-section-count = search in
+    let o : tie.After-right-opening = search in
+    rw (o .right-opening .ensures, n .section-count .ensures .0, le-ltb (length (s .args .archive .now)) 8 (search))
 
 pub wrong-header-spec : {M : Type 1} → statement M
 wrong-header-spec =
