@@ -1,3 +1,4 @@
+-- Row by row the month's cell takes the account's bank; after 16 rows the whole column has.
 use Rattle.archive.proofs.Grids.{filled, filled-none, filled-next, filled-all}
 use Rattle.archive.specs.YearSheet.{grid, cellAt, bankIn}
 use lib.IntN.{ℤ}
@@ -16,16 +17,13 @@ Inv-loop ledger month next₀ i₀ next i = (i ≤ 16) × (next ≡ grid (filled
 abbrev μ-loop : tie.MeasureT-loop
 μ-loop ledger month next₀ i₀ next i = 16 - i
 
-loop-holds : tie.Need-loop-holds Inv-loop μ-loop
-loop-holds c =
-    let a = c .args in
-    (search needs, c .pre .0 ∙ filled-none (bankIn (a .ledger)) (cellAt (a .sheet)) (a .month))
-
 loop-again : tie.Need-loop-again Inv-loop μ-loop
 unfolding bankIn
 loop-again c =
-    let l = c .before .before .loop in
-    let a = c .before .before .before .args in (
+    let s : tie.Start Inv-loop μ-loop = search in
+    let v : tie.At-loop Inv-loop μ-loop = search in
+    let a = s .args in
+    let l = v .loop in (
       omega arith,
       ap (λ (z : ℤ). set (l .next) (l .i) (set (getD (l .next) (l .i) []) (a .month) (record { 0 = z }))) (c .bank .ensures)
           ∙ filled-next (bankIn (a .ledger)) (cellAt (a .sheet)) (a .month) (l .i) (l .next) (omega arith) (omega arith) (l .inv .1),
@@ -33,9 +31,9 @@ loop-again c =
 
 returns : tie.Need-returns Inv-loop μ-loop
 returns c =
-    let l = c .before .loop in
-    let a = c .before .before .args in
-    l .inv .1 ∙ filled-all (bankIn (a .ledger)) (cellAt (a .sheet)) (a .month) (l .i) (omega arith)
+    let s : tie.Start Inv-loop μ-loop = search in
+    let v : tie.At-loop Inv-loop μ-loop = search in
+    v .loop .inv .1 ∙ filled-all (bankIn (s .args .ledger)) (cellAt (s .args .sheet)) (s .args .month) (v .loop .i) (omega arith)
 
 pub with-column-spec : {M : Type 1} → statement M
 with-column-spec =
@@ -43,7 +41,7 @@ with-column-spec =
     (tie.spec
     Inv-loop
     μ-loop
-    loop-holds
+    (λ c. (search needs, c .pre .0 ∙ filled-none (bankIn (c .args .ledger)) (cellAt (c .args .sheet)) (c .args .month)))
     (λ c κs. search needs)
     (λ c. search needs)
     (λ c. search needs)
