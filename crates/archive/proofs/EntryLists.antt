@@ -54,7 +54,7 @@ pub together-all : (s : List ℕ) → length s % 32 ≡ 0 → together (entriesO
 unfolding entriesOf
 together-all s h = together-entries (length s / 32) s ∙ take-all (32 * (length s / 32)) s (omega arith)
 
-pub entries-append : (n m : ℕ) (s t : List ℕ) → length s ≡ 32 * n → firstEntries (n + m) (s ++ t) ≡ firstEntries n s ++ firstEntries m t
+entries-append : (n m : ℕ) (s t : List ℕ) → length s ≡ 32 * n → firstEntries (n + m) (s ++ t) ≡ firstEntries n s ++ firstEntries m t
 unfolding firstEntries
 entries-append zero m [] t h = rw (zero-add m)
 entries-append zero m (x ∷ s) t h = absurd (omega arith)

@@ -15,7 +15,7 @@ use Rattle.archive.proofs.EntryLists.{entries-next, length-entries}
 use Rattle.archive.proofs.Findings.{last-one, refusal-past, refusal-within}
 use Rattle.archive.proofs.Pairs.{pairs-next, length-pairs}
 
-pub length-numbers : (final : Bool) (es : List (List ℕ)) → length (numbersIn final es) ≡ length es
+length-numbers : (final : Bool) (es : List (List ℕ)) → length (numbersIn final es) ≡ length es
 unfolding numbersIn
 length-numbers final [] = refl
 length-numbers final (e ∷ es) = ap suc (length-numbers final es)
@@ -29,11 +29,7 @@ numbers-next final n k s h =
     ∙ ap (λ (b : Bool). numberIn b final (take (32 * k + 32 - 32 * k) (drop (32 * k) s)) ∷ numbersIn final (firstEntries (n - (k + 1)) (drop (32 * (k + 1)) s)))
     (ap (λ (m : ℕ). eqb m 0) (length-entries (n - (k + 1)) (drop (32 * (k + 1)) s)) ∙ last-one n k h)
 
-pub no-numbers : (final : Bool) → numbersIn final [] ≡ []
-unfolding numbersIn
-no-numbers final = refl
-
-pub files-next : (a : List ℕ) (n i : ℕ) → i < n
+files-next : (a : List ℕ) (n i : ℕ) → i < n
     → numbersOf (map (partAt a) (pairsFrom a i (n - i)))
     ≡ numbersIn (eqb (i + 1) n) (entriesOf (partAt a (pairAt a i))) ++ numbersOf (map (partAt a) (pairsFrom a (i + 1) (n - (i + 1))))
 unfolding numbersOf
@@ -41,10 +37,6 @@ files-next a n i h =
     ap (λ (ps : List Pair). numbersOf (map (partAt a) ps)) (pairs-next a n i h)
     ∙ ap (λ (b : Bool). numbersIn b (entriesOf (partAt a (pairAt a i))) ++ numbersOf (map (partAt a) (pairsFrom a (i + 1) (n - (i + 1)))))
     (ap (λ (m : ℕ). eqb m 0) (length-map (pairsFrom a (i + 1) (n - (i + 1))) (partAt a) ∙ length-pairs a (i + 1) (n - (i + 1))) ∙ last-one n i h)
-
-pub no-files : (a : List ℕ) → numbersOf (map (partAt a) []) ≡ []
-unfolding numbersOf
-no-files a = refl
 
 -- ---- one section's turn
 

@@ -9,7 +9,7 @@ use Rattle.archive.specs.Words.{valueOf, bytesOf, halfAt, wordAt}
 use Rattle.archive.specs.RoundTrips.{Bytes}
 
 -- n has room in so many bytes
-abbrev pub Within : ℕ → ℕ → Type 0
+abbrev Within : ℕ → ℕ → Type 0
 Within zero n = n ≡ 0
 Within (suc width) n = Within width (n / 256)
 

@@ -20,7 +20,7 @@ past : (d : List ℕ) (off : ℕ) → drop (length d - off) (drop off d) ≡ []
 past d off = ap (λ (k : ℕ). drop k (drop off d)) (sym (length-drop off d)) ∙ drop-length (drop off d)
 
 -- a part from an offset to the end, filled from its start and back in its place
-pub lent-back : (d s ys : List ℕ) (off n : ℕ) → ys ≡ take n s ++ drop n (take (length d - off) (drop off d))
+lent-back : (d s ys : List ℕ) (off n : ℕ) → ys ≡ take n s ++ drop n (take (length d - off) (drop off d))
     → take off d ++ (ys ++ drop (length d - off) (drop off d)) ≡ take off d ++ (take n s ++ drop (off + n) d)
 lent-back d s ys off n e =
     ap (λ (l : List ℕ). take off d ++ l)

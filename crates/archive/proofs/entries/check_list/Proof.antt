@@ -1,4 +1,5 @@
 -- At entry k, the entries from k on have the first refusal of all: the entry's own number is it, or the rest's is.
+use borrow.Author.Tests.{ne-eqb}
 use borrow.Author.Needs.{needs}
 use native.Mathlib.Omega.{arith}
 use Prim.Native.Nat.{ℕ, _+_, _*_, _-_, _/_, _<_, _≤_}
@@ -8,8 +9,6 @@ use lib.ListN.{length, drop, take}
 use Rattle.ledger.specs.Entries.{formNumber}
 use Rattle.archive.specs.Writing.{listChecked}
 use Rattle.archive.specs.Entries.{entriesOf, firstEntries, finding, firstRefusal}
-use Rattle.archive.specs.declared.entries.Checked.{Checked}
-use Rattle.archive.proofs.Findings.{refusal-here, refusal-later}
 use Rattle.archive.proofs.EntryLists.{entries-next, entries-none}
 use Rattle.archive.proofs.entries.check_list.Statement.{statement}
 use Rattle.archive.proofs.entries.check_list.Tie as tie
@@ -30,11 +29,12 @@ module _ (s : List ℕ) (n k : ℕ) (rest : firstRefusal k (map formNumber (firs
     later = map formNumber (firstEntries (n - (k + 1)) (drop (32 * (k + 1)) s))
 
     refused-here : (m ≡ 0 → ⊥) → record { number = m; index = k } ≡ listChecked s
-    unfolding finding
-    refused-here d = cc (rw (entries-next n k s more) at rest, refusal-here k m later d)
+    unfolding finding firstRefusal
+    refused-here d = cc (rw (entries-next n k s more) at rest, ne-eqb m 0 d)
 
     refused-later : m ≡ 0 → firstRefusal (k + 1) later ≡ listChecked s
-    refused-later z = cc (rw (entries-next n k s more) at rest, refusal-later k m later z)
+    unfolding firstRefusal
+    refused-later z = cc (rw (entries-next n k s more) at rest)
 
 loop-holds : tie.Need-loop-holds Inv-loop μ-loop
 unfolding entriesOf listChecked

@@ -1,4 +1,5 @@
 -- At entry k, the numbers of the entries from k on have the first refusal of the section: the entry's own number is it, or the rest's is.
+use borrow.Author.Tests.{ne-eqb}
 use borrow.Author.Needs.{needs}
 use native.Mathlib.Omega.{arith}
 use Prim.Native.Nat.{ℕ, _+_, _*_, _-_, _/_, _<_, _≤_}
@@ -9,9 +10,7 @@ use lib.Dec.{eqb}
 use lib.ListN.{length, take, drop}
 use Rattle.archive.specs.Reading.{numberIn, numbersIn}
 use Rattle.archive.specs.Entries.{entriesOf, firstEntries, finding, firstRefusal}
-use Rattle.archive.specs.declared.entries.Checked.{Checked}
 use Rattle.archive.proofs.Numbering.{numbers-next}
-use Rattle.archive.proofs.Findings.{refusal-here, refusal-later}
 use Rattle.archive.proofs.EntryLists.{entries-none}
 use Rattle.archive.proofs.reading.check_section.Statement.{statement}
 use Rattle.archive.proofs.reading.check_section.Tie as tie
@@ -32,13 +31,12 @@ module _ (s : List ℕ) (last : Bool) (first n k : ℕ) (rest : firstRefusal (fi
     later = numbersIn last (firstEntries (n - (k + 1)) (drop (32 * (k + 1)) s))
 
     refused-here : (m ≡ 0 → ⊥) → record { number = m; index = first + k } ≡ firstRefusal first (numbersIn last (entriesOf s))
-    unfolding finding
-    refused-here d = cc (rw (numbers-next last n k s more) at rest, refusal-here (first + k) m later d)
+    unfolding finding firstRefusal
+    refused-here d = cc (rw (numbers-next last n k s more) at rest, ne-eqb m 0 d)
 
     refused-later : m ≡ 0 → firstRefusal (first + (k + 1)) later ≡ firstRefusal first (numbersIn last (entriesOf s))
-    refused-later z =
-        let j : first + (k + 1) ≡ first + k + 1 = omega arith in
-        cc (rw (numbers-next last n k s more) at rest, refusal-later (first + k) m later z)
+    unfolding firstRefusal
+    refused-later z = let j : first + (k + 1) ≡ first + k + 1 = omega arith in cc (rw (numbers-next last n k s more) at rest)
 
 loop-holds : tie.Need-loop-holds Inv-loop μ-loop
 unfolding entriesOf

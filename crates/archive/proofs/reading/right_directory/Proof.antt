@@ -10,9 +10,9 @@ use lib.Dec.{eqb, ltb}
 use lib.ListN.{length}
 use Rattle.archive.specs.Layout.{bodyAt}
 use Rattle.archive.specs.Words.{wordAt}
-use Rattle.archive.specs.Reading.{pairAt, pairsFrom, pairsOf, rightPairs, rightDirectory, sectionCount}
+use Rattle.archive.specs.Reading.{pairAt, pairsFrom, pairsOf, rightLength, rightPairs, rightDirectory, sectionCount}
 use Rattle.archive.proofs.Headers.{Measured, measured}
-use Rattle.archive.proofs.Pairs.{pairs-next, pairs-none, pairs-wrong, pairs-right}
+use Rattle.archive.proofs.Pairs.{pairs-next, pairs-none}
 use Rattle.archive.proofs.reading.right_directory.Statement.{statement}
 use Rattle.archive.proofs.reading.right_directory.Tie as tie
 
@@ -35,12 +35,12 @@ module _ (a : List ℕ) (n i end : ℕ) (rest : rightPairs (length a) end (pairs
     right = eqb o end && (ltb 0 l && eqb (l % 32) 0)
 
     pair-wrong : not right ≡ true → false ≡ rightDirectory a
-    unfolding pairAt
-    pair-wrong t = cc (pairs-next a n i more, pairs-wrong (length a) end (o, l) (pairsFrom a (i + 1) (n - (i + 1))) (not-true right t))
+    unfolding rightPairs rightLength pairAt
+    pair-wrong t = cc (rw (pairs-next a n i more) at rest, not-true right t)
 
     pair-right : not right ≡ false → rightPairs (length a) (end + l) (pairsFrom a (i + 1) (n - (i + 1))) ≡ rightDirectory a
-    unfolding pairAt
-    pair-right t = cc (pairs-next a n i more, pairs-right (length a) end (o, l) (pairsFrom a (i + 1) (n - (i + 1))) (not-false right t))
+    unfolding rightPairs rightLength pairAt
+    pair-right t = cc (rw (pairs-next a n i more) at rest, not-false right t)
 
 loop-holds : tie.Need-loop-holds Inv-loop μ-loop
 unfolding rightDirectory pairsOf bodyAt
