@@ -1,13 +1,10 @@
 -- The numbers of a section's entries and of a file's sections, as a loop meets them.
-use native.Mathlib.Omega.{arith}
-use native.Mathlib.Nat.{add-sub-cancel-left}
-use Prim.Native.Nat.{ℕ, suc, _+_, _*_, _-_, _/_, _<_, _≤_}
+use Prim.Native.Nat.{ℕ, suc, _+_, _*_, _-_, _/_, _<_}
 use mathlib.Core.Path.{_≡_, refl, sym, ap, _∙_}
 use mathlib.Core.Bool.{Bool}
 use mathlib.Core.List.{List, [], _∷_, _++_, map}
 use lib.Dec.{eqb}
-use lib.ListN.{length, take, drop, length-map, length-drop}
-use lib.Seq.{length-take-le}
+use lib.ListN.{length, take, drop, length-map}
 use Rattle.archive.specs.Entries.{firstEntries, entriesOf, firstRefusal}
 use Rattle.archive.specs.declared.entries.Checked.{Checked}
 use Rattle.archive.specs.Reading.{Pair, pairAt, pairsFrom, partAt, numberIn, numbersIn, numbersOf}

@@ -1,14 +1,13 @@
 -- The directory's pairs, as a loop meets them, and what a right directory says of each.
 use borrow.Author.Tests.{eqb-true, ltb-true}
 use native.Mathlib.Omega.{arith}
-use Prim.Native.Nat.{ℕ, zero, suc, _+_, _*_, _-_, _%_, _<_, _≤_}
+use Prim.Native.Nat.{ℕ, zero, suc, _+_, _-_, _%_, _<_, _≤_}
 use mathlib.Core.Path.{_≡_, refl, ap}
-use mathlib.Core.Bool.{true, false, _&&_}
+use mathlib.Core.Bool.{true, _&&_}
 use mathlib.Core.List.{List, [], _∷_}
 use lib.Dec.{eqb, ltb}
 use lib.ListN.{length}
 use Rattle.tariff.proofs.Bools.{and-left, and-right}
-use Rattle.archive.specs.Words.{wordAt}
 use Rattle.archive.specs.Layout.{bodyAt}
 use Rattle.archive.specs.Reading.{Pair, pairAt, pairsFrom, pairsOf, rightLength, rightPairs, rightDirectory, sectionCount}
 

@@ -6,7 +6,7 @@ use mathlib.Core.Path.{_≡_, sym, ap, _∙_}
 use mathlib.Core.List.{List, []}
 use lib.ListN.{length, getD}
 use Rattle.archive.specs.Entries.{entriesOf, finding}
-use Rattle.archive.specs.Layout.{sectionsOf, together, packed, archiveOf}
+use Rattle.archive.specs.Layout.{sectionsOf, packed, archiveOf}
 use Rattle.archive.specs.Reading.{sectionCount, pairAt, pairsOf, partAt, partsOf, checked, placeOf, sectionAt, listOf}
 use Rattle.archive.specs.RoundTrips.{Bytes, Read, ReadsBack, Remade, WritesBack}
 use Rattle.archive.proofs.ArchiveSizes.{sections-all}

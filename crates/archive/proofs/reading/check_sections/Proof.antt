@@ -9,7 +9,7 @@ use mathlib.Core.Path.{_≡_, _∙_}
 use lib.Dec.{eqb}
 use lib.ListN.{length, take, drop}
 use Rattle.archive.specs.Words.{wordAt}
-use Rattle.archive.specs.Reading.{Pair, pairAt, pairsFrom, pairsOf, partAt, partsOf, numbersIn, numbersOf, sectionCount, rightDirectory}
+use Rattle.archive.specs.Reading.{pairAt, pairsFrom, pairsOf, partAt, partsOf, numbersIn, numbersOf, sectionCount, rightDirectory}
 use Rattle.archive.specs.Entries.{entriesOf, firstRefusal, finding}
 use Rattle.archive.specs.declared.entries.Checked.{Checked}
 use Rattle.archive.proofs.Numbering.{section-refuses, section-passes}

@@ -1,3 +1,4 @@
+-- Four stores in a row are one copy of the number's four bytes; a store leaves the length, so the next has room too.
 use borrow.Author.Needs.{needs}
 use native.Mathlib.Omega.{arith}
 use lib.ListN.{length-set}
@@ -5,15 +6,6 @@ use Rattle.archive.specs.Words.{bytesOf}
 use Rattle.archive.proofs.Parts.{four-stored}
 use Rattle.archive.proofs.words.put_word.Statement.{statement}
 use Rattle.archive.proofs.words.put_word.Tie as tie
-
-slice-write-out-2 : tie.Need-slice-write-out-2
-slice-write-out-2 c = simp length-set (omega arith)
-
-slice-write-out-3 : tie.Need-slice-write-out-3
-slice-write-out-3 c = simp length-set (omega arith)
-
-slice-write-out-4 : tie.Need-slice-write-out-4
-slice-write-out-4 c = simp length-set (omega arith)
 
 returns : tie.Need-returns
 unfolding bytesOf
@@ -27,12 +19,12 @@ put-word-spec =
     (λ c. search needs)
     (λ c. search needs)
     (λ c. search needs)
-    slice-write-out-2
+    (λ c. simp length-set (omega arith))
     (λ c. search needs)
     (λ c. search needs)
-    slice-write-out-3
+    (λ c. simp length-set (omega arith))
     (λ c. search needs)
     (λ c. search needs)
-    slice-write-out-4
+    (λ c. simp length-set (omega arith))
     (λ c. search needs)
     returns)
