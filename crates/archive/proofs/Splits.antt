@@ -15,18 +15,6 @@ unfoldable pub lead : List (List ℕ) → ℕ
 lead [] = 0
 lead (e ∷ es) = cond (closesMonth e) 1 (1 + lead es)
 
-lead-closes : (e : List ℕ) (es : List (List ℕ)) → closesMonth e ≡ true → lead (e ∷ es) ≡ 1
-unfolding lead
-lead-closes e es h = rw h
-
-lead-goes-on : (e : List ℕ) (es : List (List ℕ)) → closesMonth e ≡ false → lead (e ∷ es) ≡ 1 + lead es
-unfolding lead
-lead-goes-on e es h = rw h
-
-lead-none : lead [] ≡ 0
-unfolding lead
-lead-none = refl
-
 lead-case : (b : Bool) (n m : ℕ) → n ≤ m → cond b 1 (1 + n) ≤ suc m
 lead-case true n m h = omega arith
 lead-case false n m h = omega arith
@@ -135,13 +123,16 @@ no-sections (x ∷ s) h = absurd (omega arith)
 
 module _ (n k : ℕ) (s : List ℕ) (h : k < n) where
   pub lead-here : closesMonth (take (32 * k + 32 - 32 * k) (drop (32 * k) s)) ≡ true → lead (firstEntries (n - k) (drop (32 * k) s)) ≡ 1
-  lead-here t = ap lead (entries-next n k s h) ∙ lead-closes (take (32 * k + 32 - 32 * k) (drop (32 * k) s)) (firstEntries (n - (k + 1)) (drop (32 * (k + 1)) s)) t
+  unfolding lead
+  lead-here t = rw (entries-next n k s h, t)
 
   pub lead-later : closesMonth (take (32 * k + 32 - 32 * k) (drop (32 * k) s)) ≡ false → lead (firstEntries (n - k) (drop (32 * k) s)) ≡ 1 + lead (firstEntries (n - (k + 1)) (drop (32 * (k + 1)) s))
-  lead-later t = ap lead (entries-next n k s h) ∙ lead-goes-on (take (32 * k + 32 - 32 * k) (drop (32 * k) s)) (firstEntries (n - (k + 1)) (drop (32 * (k + 1)) s)) t
+  unfolding lead
+  lead-later t = rw (entries-next n k s h, t)
 
 pub lead-end : (n k : ℕ) (s : List ℕ) → n ≤ k → lead (firstEntries (n - k) s) ≡ 0
-lead-end n k s h = ap lead (entries-none n k s h) ∙ lead-none
+unfolding lead
+lead-end n k s h = rw (entries-none n k s h)
 
 -- ---- the sections, as a loop meets them
 
