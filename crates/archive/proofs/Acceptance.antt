@@ -1,4 +1,4 @@
--- What a 0 from the writer tells of a list, and a 0 from the reader of an archive: every check passed, and so the other way.
+-- A 0 is the answer of one row of the checks only, the one past all of them: so a 0 tells that every check passed, and where every check passes it is 0.
 use borrow.Author.Tests.{eqb-true, eqb-false, ltb-false, eq-eqb, le-ltb}
 use native.Mathlib.Omega.{arith}
 use Prim.Native.Nat.{ℕ, _%_, _≤_}

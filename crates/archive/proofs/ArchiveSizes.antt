@@ -1,4 +1,4 @@
--- How long an archive is, and that its three parts put one after the other are all of it.
+-- Header, directory and list each begin where the one before it ends, so their lengths add up and the three together are the archive.
 use native.Mathlib.Omega.{arith}
 use Prim.Native.Nat.{ℕ, _+_, _*_, _%_}
 use mathlib.Core.Path.{_≡_, refl, sym, ap, _∙_}

@@ -1,4 +1,4 @@
--- The directory: what is written for sections is read as their pairs, and what is read is so written.
+-- A pair is two words of four bytes, so the directory is cut every eight bytes; a word comes back from its bytes, and the bytes from the word.
 use native.Mathlib.Omega.{arith}
 use Prim.Native.Nat.{ℕ, zero, suc, _+_, _*_, _<_, _≤_}
 use mathlib.Core.Path.{_≡_, refl, sym, ap, _∙_}

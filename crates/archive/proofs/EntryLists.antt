@@ -1,4 +1,4 @@
--- A list of bytes as its entries: one after the other, and some of them.
+-- Every entry has 32 bytes, so to pass k entries of a list is to pass 32 k of its bytes, and whole entries put together are entries again.
 use native.Mathlib.Omega.{arith}
 use native.Mathlib.Nat.{zero-add}
 use Prim.Native.Nat.{ℕ, zero, suc, _+_, _*_, _-_, _/_, _%_, _<_, _≤_}

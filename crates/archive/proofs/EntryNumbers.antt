@@ -1,4 +1,4 @@
--- The reader's number of one entry: 0 where its form is right, and its place in its section too.
+-- The reader's number of an entry is 0 just where its form is right and its place in its section too: it is asked for the one, then for the other.
 use borrow.Author.Tests.{eqb-true, eqb-false, not-false}
 use native.Mathlib.Omega.{arith}
 use Prim.Native.Nat.{ℕ}

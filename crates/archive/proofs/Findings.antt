@@ -1,4 +1,4 @@
--- The first refusal of two lists of numbers, one after the other: the first list's where it has one, else the second's.
+-- The first refusal of two lists of numbers, one after the other, is the first list's where it has one, else the second's, counted on.
 use borrow.Author.Tests.{eq-eqb, ne-eqb, eqb-true, eqb-false}
 use native.Mathlib.Omega.{arith}
 use Prim.Native.Nat.{ℕ, suc, _+_, _-_, _<_}

@@ -1,4 +1,4 @@
--- The year sheet as a grid: what its cells hold, which grids are the same, and one cell, column or posting more.
+-- Two grids are the same where their 16 by 12 cells are: so a cell stored, a column filled or a posting noted is looked at cell by cell.
 use borrow.Author.Tests.{eqb-true, eqb-false, lt-ltb, le-ltb, ltb-true, ltb-false}
 use native.Mathlib.Omega.{arith}
 use Prim.Native.Nat.{ℕ, zero, suc, _+_, _<_, _≤_}

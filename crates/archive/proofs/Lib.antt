@@ -1,3 +1,4 @@
+-- From bytes to entries, from entries to sections, from sections to the archive and back; then the sheet and the replay.
 pub mod Numbers
 pub mod EntryLists
 pub mod Splits

@@ -1,4 +1,4 @@
--- The numbers of a section's entries and of a file's sections, as a loop meets them.
+-- A section's numbers are its first entry's, then the others'; a file's are its first section's, then the others'. So what is left after k has one number, or one section, less.
 use Prim.Native.Nat.{ℕ, suc, _+_, _*_, _-_, _/_, _<_}
 use mathlib.Core.Path.{_≡_, refl, sym, ap, _∙_}
 use mathlib.Core.Bool.{Bool}

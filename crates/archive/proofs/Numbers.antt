@@ -1,4 +1,4 @@
--- A number through its bytes and back, at any width.
+-- A remainder by 256 is the low byte and the quotient holds the others, so a number comes back from its bytes at any width that it fits.
 use native.Mathlib.Omega.{arith}
 use Prim.Native.Nat.{ℕ, zero, suc, _+_, _*_, _/_, _%_, _<_, _≤_}
 use mathlib.Core.Path.{_≡_, refl, sym, ap, _∙_}

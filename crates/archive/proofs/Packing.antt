@@ -1,4 +1,4 @@
--- Sections through their archive and back: what is packed is read as it was, and an archive that is read is what is packed of its parts.
+-- The archive says of its sections how many they are and where each lies, so they are read as they were packed; a right archive leaves the packer no choice.
 use native.Mathlib.Omega.{arith}
 use Prim.Native.Nat.{ℕ, _+_, _*_, _≤_}
 use mathlib.Core.Path.{_≡_, refl, sym, ap, _∙_}

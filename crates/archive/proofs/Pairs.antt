@@ -1,4 +1,4 @@
--- The directory's pairs, as a loop meets them, and what a right directory says of each.
+-- A right directory's pairs follow each other up to the file's end, so each lies within the file, is not empty and holds whole entries.
 use borrow.Author.Tests.{eqb-true, ltb-true}
 use native.Mathlib.Omega.{arith}
 use Prim.Native.Nat.{ℕ, zero, suc, _+_, _-_, _%_, _<_, _≤_}

@@ -1,4 +1,4 @@
--- Sections against the entries that they hold: what the writer cuts passes the reader's check, and what passes is so cut.
+-- The writer cuts after each closing and the reader asks for closings just there: so what is cut passes, and what passes is cut so again.
 use borrow.Author.Tests.{eqb-true, ne-eqb}
 use native.Mathlib.Omega.{arith}
 use Prim.Native.Nat.{ℕ, suc, _/_, _%_, _<_}

@@ -1,4 +1,4 @@
--- Bytes stored one after the other, a part that is lent to a filler and comes back, and a run of such fills.
+-- A copy that goes on where the last one ended is one longer copy, and a part that comes back filled changes nothing beside it.
 use native.Mathlib.Omega.{arith}
 use native.Mathlib.Nat.{add-assoc, add-sub-cancel-left}
 use Prim.Native.Nat.{ℕ, suc, _+_, _-_, _≤_}

@@ -1,4 +1,4 @@
--- Where entries fall into sections.
+-- The first section runs to the first closing, or to the end; what follows is cut as a list of its own.
 use native.Mathlib.Omega.{arith}
 use Prim.Native.Nat.{ℕ, zero, suc, _+_, _*_, _-_, _/_, _%_, _<_, _≤_}
 use mathlib.Core.Path.{_≡_, refl, ap, _∙_}

@@ -1,4 +1,4 @@
--- Both round trips: a list that is written reads back, and an archive that is read is written again.
+-- The writer packs sections that the reader finds right, and reading takes them out as they were; an accepted archive has right sections, and packing them leaves no choice of bytes.
 use borrow.Author.Tests.{lt-ltb}
 use native.Mathlib.Nat.{zero-add}
 use Prim.Native.Nat.{ℕ, _<_, _≤_}
