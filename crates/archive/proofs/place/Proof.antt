@@ -34,7 +34,7 @@ module _ (a : List ℕ) (i : ℕ) (c : Checked) (p : c ≡ checked a) where
       unfolding pairAt
       within = rw (e, f) (pair-held a i (checked-tells a (cc) .directed) (omega arith) .within)
 
-module _ (c : tie.Else1) where
+module _ (c : tie.After-check) (z : c .check .result .number ≡ 0) where
   start : tie.Start
   start = search
 
@@ -50,13 +50,13 @@ place-spec =
     (λ c κs. search needs)
     (λ c κs. search needs)
     (λ c. rw (c .nowhere .ensures) (search refused, omega arith))
-    (λ c κs. omega (arith, sizes (search)))
+    (λ c κs. omega (arith, sizes (search) (search)))
     (λ c κs. search needs)
     (λ c. rw (c .nowhere2 .ensures) (search none-such, omega arith))
-    (λ c. omega (arith, sizes (search)))
-    (λ c. omega (arith, sizes (search)))
-    (λ c κs. omega (arith, sizes (search)))
-    (λ c. omega (arith, sizes (search)))
-    (λ c. omega (arith, sizes (search)))
-    (λ c κs. omega (arith, sizes (search)))
+    (λ c. omega (arith, sizes (search) (search)))
+    (λ c. omega (arith, sizes (search) (search)))
+    (λ c κs. omega (arith, sizes (search) (search)))
+    (λ c. omega (arith, sizes (search) (search)))
+    (λ c. omega (arith, sizes (search) (search)))
+    (λ c κs. omega (arith, sizes (search) (search)))
     (λ c. (search found, search within)))

@@ -29,7 +29,7 @@ module _ (a : List ℕ) (y : ℕ) (c : Checked) (p : c ≡ checked a) (r : List 
   unfolding sheetOf
   accepted z n q e = e ∙ ap sheet (held-all a n (cc) q)
 
-module _ (c : tie.Else1) where
+module _ (c : tie.After-check) (z : c .check .result .number ≡ 0) where
   start : tie.Start
   start = search
 
@@ -45,11 +45,11 @@ year-sheet-spec =
     (λ c κs. search needs)
     (λ c κs. search needs)
     (λ c. search refused)
-    (λ c κs. omega (arith, sizes (search)))
-    (λ c. omega (arith, sizes (search)))
-    (λ c. omega (arith, sizes (search)))
-    (λ c. omega (arith, sizes (search)))
-    (λ c. omega (arith, sizes (search)))
-    (λ c. omega (arith, sizes (search)))
+    (λ c κs. omega (arith, sizes (search) (search)))
+    (λ c. omega (arith, sizes (search) (search)))
+    (λ c. omega (arith, sizes (search) (search)))
+    (λ c. omega (arith, sizes (search) (search)))
+    (λ c. omega (arith, sizes (search) (search)))
+    (λ c. omega (arith, sizes (search) (search)))
     (λ c κs. search needs)
     (λ c. search accepted))
