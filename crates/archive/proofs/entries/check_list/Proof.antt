@@ -13,35 +13,35 @@ use Rattle.archive.proofs.EntryLists.{entries-next, entries-none}
 use Rattle.archive.proofs.entries.check_list.Statement.{statement}
 use Rattle.archive.proofs.entries.check_list.Tie as tie
 
+-- from entry k on, of n
+record Rest (s : List ℕ) (n k : ℕ) : Type 0 where
+  within : k ≤ n
+  all : n ≡ length s / 32
+  same : firstRefusal k (map formNumber (firstEntries (n - k) (drop (32 * k) s))) ≡ listChecked s
+
 abbrev Inv-loop : tie.InvT-loop
-Inv-loop list n k₀ k = (k ≤ n) × (n ≡ length list / 32) × (firstRefusal k (map formNumber (firstEntries (n - k) (drop (32 * k) list))) ≡ listChecked list)
+Inv-loop list n k₀ k = Rest list n k
 
 abbrev μ-loop : tie.MeasureT-loop
 μ-loop list n k₀ k = n - k
 
-module _ (s : List ℕ) (n k : ℕ) (rest : firstRefusal k (map formNumber (firstEntries (n - k) (drop (32 * k) s))) ≡ listChecked s) where
+at-first : (s : List ℕ) → Rest s (length s / 32) 0
+unfolding entriesOf listChecked
+at-first s = let z : length s / 32 - 0 ≡ length s / 32 = omega arith in record { within = omega arith; all = refl; same = rw z }
+
+module _ (s : List ℕ) (n k : ℕ) (r : Rest s n k) where
   none-refused : n ≤ k → record { number = 0; index = 0 } ≡ listChecked s
   unfolding finding firstRefusal
-  none-refused h = rw (entries-none n k (drop (32 * k) s) h) at rest
+  none-refused h = rw (entries-none n k (drop (32 * k) s) h) at (r .same)
 
   module _ (more : k < n) (m : ℕ) (e : m ≡ formNumber (take (32 * k + 32 - 32 * k) (drop (32 * k) s))) where
-    abbrev later : List ℕ
-    later = map formNumber (firstEntries (n - (k + 1)) (drop (32 * (k + 1)) s))
-
-    refused-here : (m ≡ 0 → ⊥) → record { number = m; index = k } ≡ listChecked s
+    refused : (m ≡ 0 → ⊥) → record { number = m; index = k } ≡ listChecked s
     unfolding finding firstRefusal
-    refused-here d = cc (rw (entries-next n k s more) at rest, ne-eqb m 0 d)
+    refused d = cc (rw (entries-next n k s more) at (r .same), ne-eqb m 0 d)
 
-    refused-later : m ≡ 0 → firstRefusal (k + 1) later ≡ listChecked s
+    passed : m ≡ 0 → (j : ℕ) → j ≡ k + 1 → Rest s n j
     unfolding firstRefusal
-    refused-later z = cc (rw (entries-next n k s more) at rest)
-
-loop-holds : tie.Need-loop-holds Inv-loop μ-loop
-unfolding entriesOf listChecked
-loop-holds c =
-    let s : tie.Start Inv-loop μ-loop = search in
-    let z : length (s .args .list .now) / 32 - 0 ≡ length (s .args .list .now) / 32 = omega arith in
-    (search needs, refl, rw z)
+    passed z j i = rw i (record { within = omega arith; all = r .all; same = cc (rw (entries-next n k s more) at (r .same)) })
 
 pub check-list-spec : {M : Type 1} → statement M
 check-list-spec =
@@ -49,15 +49,15 @@ check-list-spec =
     (tie.spec
     Inv-loop
     μ-loop
-    loop-holds
+    (λ c. search at-first)
     (λ c. search needs)
     (λ c. search needs)
     (λ c. search needs)
     (λ c. search needs)
     (λ c. search needs)
     (λ c κs. search needs)
-    (λ c. search refused-here)
+    (λ c. search refused)
     (λ c. search needs)
     (λ c. search needs)
-    (λ c. let v : tie.At-loop Inv-loop μ-loop = search in (omega arith, refl, search (refused-later _ _ _ (v .loop .inv .2))))
+    (λ c. search passed)
     (λ c. search none-refused))

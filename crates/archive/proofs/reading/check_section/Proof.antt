@@ -15,36 +15,40 @@ use Rattle.archive.proofs.EntryLists.{entries-none}
 use Rattle.archive.proofs.reading.check_section.Statement.{statement}
 use Rattle.archive.proofs.reading.check_section.Tie as tie
 
+-- from entry k on, of n
+record Rest (s : List ℕ) (first : ℕ) (last : Bool) (n k : ℕ) : Type 0 where
+  within : k ≤ n
+  all : n ≡ length s / 32
+  same : firstRefusal (first + k) (numbersIn last (firstEntries (n - k) (drop (32 * k) s))) ≡ firstRefusal first (numbersIn last (entriesOf s))
+
 abbrev Inv-loop : tie.InvT-loop
-Inv-loop section first last n k₀ k = (k ≤ n) × (n ≡ length section / 32) × (firstRefusal (first + k) (numbersIn last (firstEntries (n - k) (drop (32 * k) section))) ≡ firstRefusal first (numbersIn last (entriesOf section)))
+Inv-loop section first last n k₀ k = Rest section first last n k
 
 abbrev μ-loop : tie.MeasureT-loop
 μ-loop section first last n k₀ k = n - k
 
-module _ (s : List ℕ) (last : Bool) (first n k : ℕ) (rest : firstRefusal (first + k) (numbersIn last (firstEntries (n - k) (drop (32 * k) s))) ≡ firstRefusal first (numbersIn last (entriesOf s))) where
+at-first : (s : List ℕ) (first : ℕ) (last : Bool) → Rest s first last (length s / 32) 0
+unfolding entriesOf
+at-first s first last =
+    let z : length s / 32 - 0 ≡ length s / 32 = omega arith in
+    let i : first + 0 ≡ first = omega arith in
+    record { within = omega arith; all = refl; same = rw (z, i) }
+
+module _ (s : List ℕ) (first : ℕ) (last : Bool) (n k : ℕ) (r : Rest s first last n k) where
   none-refused : n ≤ k → record { number = 0; index = 0 } ≡ firstRefusal first (numbersIn last (entriesOf s))
   unfolding finding firstRefusal numbersIn
-  none-refused h = rw (entries-none n k (drop (32 * k) s) h) at rest
+  none-refused h = rw (entries-none n k (drop (32 * k) s) h) at (r .same)
 
   module _ (more : k < n) (m : ℕ) (e : m ≡ numberIn (eqb (k + 1) n) last (take (32 * k + 32 - 32 * k) (drop (32 * k) s))) where
-    abbrev later : List ℕ
-    later = numbersIn last (firstEntries (n - (k + 1)) (drop (32 * (k + 1)) s))
-
-    refused-here : (m ≡ 0 → ⊥) → record { number = m; index = first + k } ≡ firstRefusal first (numbersIn last (entriesOf s))
+    refused : (m ≡ 0 → ⊥) → record { number = m; index = first + k } ≡ firstRefusal first (numbersIn last (entriesOf s))
     unfolding finding firstRefusal
-    refused-here d = cc (rw (numbers-next last n k s more) at rest, ne-eqb m 0 d)
+    refused d = cc (rw (numbers-next last n k s more) at (r .same), ne-eqb m 0 d)
 
-    refused-later : m ≡ 0 → firstRefusal (first + (k + 1)) later ≡ firstRefusal first (numbersIn last (entriesOf s))
+    passed : m ≡ 0 → (j : ℕ) → j ≡ k + 1 → Rest s first last n j
     unfolding firstRefusal
-    refused-later z = let j : first + (k + 1) ≡ first + k + 1 = omega arith in cc (rw (numbers-next last n k s more) at rest)
-
-loop-holds : tie.Need-loop-holds Inv-loop μ-loop
-unfolding entriesOf
-loop-holds c =
-    let s : tie.Start Inv-loop μ-loop = search in
-    let z : length (s .args .section .now) / 32 - 0 ≡ length (s .args .section .now) / 32 = omega arith in
-    let i : s .args .first + 0 ≡ s .args .first = omega arith in
-    (search needs, refl, rw (z, i))
+    passed z j i =
+        let l : first + (k + 1) ≡ first + k + 1 = omega arith in
+        rw i (record { within = omega arith; all = r .all; same = cc (rw (numbers-next last n k s more) at (r .same)) })
 
 pub check-section-spec : {M : Type 1} → statement M
 check-section-spec =
@@ -52,7 +56,7 @@ check-section-spec =
     (tie.spec
     Inv-loop
     μ-loop
-    loop-holds
+    (λ c. search at-first)
     (λ c. search needs)
     (λ c. search needs)
     (λ c. search needs)
@@ -61,8 +65,8 @@ check-section-spec =
     (λ c. search needs)
     (λ c κs. search needs)
     (λ c. search needs)
-    (λ c. search refused-here)
+    (λ c. search refused)
     (λ c. search needs)
     (λ c. search needs)
-    (λ c. let v : tie.At-loop Inv-loop μ-loop = search in (omega arith, refl, search (refused-later _ _ _ _ _ (v .loop .inv .2))))
+    (λ c. search passed)
     (λ c. search none-refused))

@@ -19,8 +19,15 @@ use Rattle.archive.proofs.Headers.{Measured, measured}
 use Rattle.archive.proofs.reading.check_sections.Statement.{statement}
 use Rattle.archive.proofs.reading.check_sections.Tie as tie
 
+-- from section i on, of n, its first entry having the index `first`
+record Rest (a : List ℕ) (n first i : ℕ) : Type 0 where
+  within : i ≤ n
+  all : n ≡ sectionCount a
+  small : first ≤ 134217728 * i
+  same : firstRefusal first (numbersOf (map (partAt a) (pairsFrom a i (n - i)))) ≡ firstRefusal 0 (numbersOf (partsOf a))
+
 abbrev Inv-loop : tie.InvT-loop
-Inv-loop archive count first₀ i₀ first i = (i ≤ count) × (count ≡ sectionCount archive) × (first ≤ 134217728 * i) × (firstRefusal first (numbersOf (map (partAt archive) (pairsFrom archive i (count - i)))) ≡ firstRefusal 0 (numbersOf (partsOf archive)))
+Inv-loop archive count first₀ i₀ first i = Rest archive count first i
 
 abbrev μ-loop : tie.MeasureT-loop
 μ-loop archive count first₀ i₀ first i = count - i
@@ -28,42 +35,42 @@ abbrev μ-loop : tie.MeasureT-loop
 sizes : (s : tie.Start Inv-loop μ-loop) → Measured (s .args .archive .now)
 sizes s = measured (s .args .archive .now) (s .pre .0)
 
--- the pair that this turn has read
-module _ (a : List ℕ) (n i o l : ℕ) (p : o ≡ wordAt a (8 + 8 * i)) (q : l ≡ wordAt a (12 + 8 * i)) (more : i < n) (all : n ≡ sectionCount a) (directed : rightDirectory a ≡ true) where
-  held : Held (length a) (o, l)
-  unfolding pairAt
-  held = rw (p, q) (pair-held a i directed (omega arith))
+at-first : (a : List ℕ) (n : ℕ) → n ≡ sectionCount a → Rest a n 0 0
+unfolding partsOf pairsOf
+at-first a n e =
+    let z : n - 0 ≡ n = omega arith in
+    record { within = omega arith; all = e; small = omega arith; same = rw (z, e) }
 
-  within : o + l ≤ length a
-  within = held .within
-
-  part-whole : length (take (o + l - o) (drop o a)) % 32 ≡ 0
-  part-whole = rw (section-bytes a o l within) (held .multiple)
-
-module _ (a : List ℕ) (n i first : ℕ) (rest : firstRefusal first (numbersOf (map (partAt a) (pairsFrom a i (n - i)))) ≡ firstRefusal 0 (numbersOf (partsOf a))) where
+module _ (a : List ℕ) (n first i : ℕ) (r : Rest a n first i) where
   all-passed : n ≤ i → record { number = 0; index = 0 } ≡ firstRefusal 0 (numbersOf (partsOf a))
   unfolding finding firstRefusal numbersOf
-  all-passed h = rw (pairs-none a n i h) at rest
+  all-passed h = rw (pairs-none a n i h) at (r .same)
 
-  module _ (more : i < n) (o l : ℕ) (p : o ≡ wordAt a (8 + 8 * i)) (q : l ≡ wordAt a (12 + 8 * i))
-      (r : Checked) (e : r ≡ firstRefusal first (numbersIn (eqb (i + 1) n) (entriesOf (take (o + l - o) (drop o a))))) where
-    here : r ≡ firstRefusal first (numbersIn (eqb (i + 1) n) (entriesOf (partAt a (pairAt a i))))
-    unfolding partAt pairAt
-    here = cc (add-sub-cancel-left o l)
+  -- the pair that this turn has read, and the part that it names
+  module _ (more : i < n) (o l : ℕ) (p : o ≡ wordAt a (8 + 8 * i)) (q : l ≡ wordAt a (12 + 8 * i)) (directed : rightDirectory a ≡ true) where
+    held : Held (length a) (o, l)
+    unfolding pairAt
+    held = rw (p, q) (pair-held a i directed (omega (arith, r)))
 
-    part-refused : (r .number ≡ 0 → ⊥) → r ≡ firstRefusal 0 (numbersOf (partsOf a))
-    part-refused k = section-refuses a n i first more r here k ∙ rest
+    part-within : o + l ≤ length a
+    part-within = held .within
 
-    part-passed : r .number ≡ 0 → o + l ≤ length a → firstRefusal (first + l / 32) (numbersOf (map (partAt a) (pairsFrom a (i + 1) (n - (i + 1))))) ≡ firstRefusal 0 (numbersOf (partsOf a))
-    unfolding partAt pairAt
-    part-passed k h = section-passes a n i first more r l (cc (section-bytes a o l h, add-sub-cancel-left o l)) here k ∙ rest
+    part-whole : length (take (o + l - o) (drop o a)) % 32 ≡ 0
+    part-whole = rw (section-bytes a o l part-within) (held .multiple)
 
-loop-holds : tie.Need-loop-holds Inv-loop μ-loop
-unfolding partsOf pairsOf
-loop-holds c =
-    let n = c .section-count .ensures .0 in
-    let z : c .section-count .result - 0 ≡ c .section-count .result = omega arith in
-    (search needs, n, search needs, rw (z, n))
+    module _ (c : Checked) (e : c ≡ firstRefusal first (numbersIn (eqb (i + 1) n) (entriesOf (take (o + l - o) (drop o a))))) where
+      here : c ≡ firstRefusal first (numbersIn (eqb (i + 1) n) (entriesOf (partAt a (pairAt a i))))
+      unfolding partAt pairAt
+      here = cc (add-sub-cancel-left o l)
+
+      part-refused : (c .number ≡ 0 → ⊥) → c ≡ firstRefusal 0 (numbersOf (partsOf a))
+      part-refused k = section-refuses a n i first more c here k ∙ r .same
+
+      part-passed : c .number ≡ 0 → l < 4294967296 → (next j : ℕ) → next ≡ first + l / 32 → j ≡ i + 1 → Rest a n next j
+      unfolding partAt pairAt
+      part-passed k b next j u v =
+          let long : length (partAt a (pairAt a i)) ≡ l = cc (section-bytes a o l part-within, add-sub-cancel-left o l) in
+          rw (u, v) (record { within = omega arith; all = r .all; small = omega (arith, r); same = section-passes a n i first more c l long here k ∙ r .same })
 
 pub check-sections-spec : {M : Type 1} → statement M
 check-sections-spec =
@@ -72,7 +79,7 @@ check-sections-spec =
     Inv-loop
     μ-loop
     (λ c κs. omega (arith, sizes (search)))
-    loop-holds
+    (λ c. search at-first)
     (λ c. omega (arith, sizes (search)))
     (λ c. omega (arith, sizes (search)))
     (λ c κs. omega (arith, sizes (search)))
@@ -83,11 +90,11 @@ check-sections-spec =
     (λ c. search needs)
     (λ c. search needs)
     (λ c. search needs)
-    (λ c. search within)
+    (λ c. search part-within)
     (λ c κs. (search part-whole, omega (arith, sizes (search))))
     (λ c. search part-refused)
     (λ c. search needs)
     (λ c. search needs)
     (λ c. search needs)
-    (λ c. let v : tie.At-loop Inv-loop μ-loop = search in (omega arith, search needs, omega arith, search (part-passed _ _ _ _ (v .loop .inv .3), within)))
+    (λ c. search part-passed)
     (λ c. search all-passed))

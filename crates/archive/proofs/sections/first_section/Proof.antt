@@ -12,29 +12,34 @@ use Rattle.archive.proofs.Splits.{lead, lead-here, lead-later, lead-end
 use Rattle.archive.proofs.sections.first_section.Statement.{statement}
 use Rattle.archive.proofs.sections.first_section.Tie as tie
 
+-- from entry k on, of n
+record Rest (s : List ℕ) (n k : ℕ) : Type 0 where
+  within : k ≤ n
+  all : n ≡ length s / 32
+  same : 32 * k + 32 * lead (firstEntries (n - k) (drop (32 * k) s)) ≡ 32 * lead (entriesOf s)
+
 abbrev Inv-loop : tie.InvT-loop
-Inv-loop list n k₀ k = (k ≤ n) × (n ≡ length list / 32) × (32 * k + 32 * lead (firstEntries (n - k) (drop (32 * k) list)) ≡ 32 * lead (entriesOf list))
+Inv-loop list n k₀ k = Rest list n k
 
 abbrev μ-loop : tie.MeasureT-loop
 μ-loop list n k₀ k = n - k
 
-module _ (s : List ℕ) (n k : ℕ) (rest : 32 * k + 32 * lead (firstEntries (n - k) (drop (32 * k) s)) ≡ 32 * lead (entriesOf s)) where
-  no-end : n ≤ k → k ≤ n → n ≡ length s / 32 → length s % 32 ≡ 0 → length s ≡ length (getD (sectionsOf (entriesOf s)) 0 [])
-  no-end h l e w = rw (first-size s w) (omega (arith, lead-end n k (drop (32 * k) s) h))
+at-first : (s : List ℕ) → Rest s (length s / 32) 0
+unfolding entriesOf
+at-first s =
+    let z : length s / 32 - 0 ≡ length s / 32 = omega arith in
+    record { within = omega arith; all = refl; same = rw z (omega arith) }
+
+module _ (s : List ℕ) (n k : ℕ) (r : Rest s n k) where
+  no-end : length s % 32 ≡ 0 → n ≤ k → length s ≡ length (getD (sectionsOf (entriesOf s)) 0 [])
+  no-end w h = rw (first-size s w) (omega (arith, lead-end n k (drop (32 * k) s) h))
 
   module _ (more : k < n) (closes : Bool) (e : closes ≡ closesMonth (take (32 * k + 32 - 32 * k) (drop (32 * k) s))) where
-    ends : closes ≡ true → length s % 32 ≡ 0 → 32 * k + 32 ≡ length (getD (sectionsOf (entriesOf s)) 0 [])
-    ends t w = rw (first-size s w) (omega (arith, lead-here n k s more (sym e ∙ t)))
+    ends : length s % 32 ≡ 0 → closes ≡ true → 32 * k + 32 ≡ length (getD (sectionsOf (entriesOf s)) 0 [])
+    ends w t = rw (first-size s w) (omega (arith, lead-here n k s more (sym e ∙ t)))
 
-    goes-on : closes ≡ false → 32 * (k + 1) + 32 * lead (firstEntries (n - (k + 1)) (drop (32 * (k + 1)) s)) ≡ 32 * lead (entriesOf s)
-    goes-on t = omega (arith, lead-later n k s more (sym e ∙ t))
-
-loop-holds : tie.Need-loop-holds Inv-loop μ-loop
-unfolding entriesOf
-loop-holds c =
-    let s : tie.Start Inv-loop μ-loop = search in
-    let z : length (s .args .list .now) / 32 - 0 ≡ length (s .args .list .now) / 32 = omega arith in
-    (search needs, refl, rw z (omega arith))
+    goes-on : closes ≡ false → (j : ℕ) → j ≡ k + 1 → Rest s n j
+    goes-on t j i = rw i (record { within = omega arith; all = r .all; same = omega (arith, lead-later n k s more (sym e ∙ t)) })
 
 pub first-section-spec : {M : Type 1} → statement M
 first-section-spec =
@@ -42,7 +47,7 @@ first-section-spec =
     (tie.spec
     Inv-loop
     μ-loop
-    loop-holds
+    (λ c. search at-first)
     (λ c. search needs)
     (λ c. search needs)
     (λ c. search needs)
@@ -52,5 +57,5 @@ first-section-spec =
     (λ c. search ends)
     (λ c. search needs)
     (λ c. search needs)
-    (λ c. let v : tie.At-loop Inv-loop μ-loop = search in (omega arith, refl, search (goes-on _ _ _ (v .loop .inv .2))))
+    (λ c. search goes-on)
     (λ c. search no-end))
