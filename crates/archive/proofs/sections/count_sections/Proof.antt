@@ -1,7 +1,8 @@
 -- The sections counted so far and those of the list from here on are all of them; each turn passes the first of the rest.
 use borrow.Author.Needs.{needs}
 use native.Mathlib.Omega.{arith}
-use Prim.Native.Nat.{_+_, _-_, _%_, _≤_}
+use Prim.Native.Nat.{ℕ, _+_, _-_, _%_, _≤_}
+use mathlib.Core.List.{List}
 use mathlib.Core.Path.{_≡_, refl, ap}
 use lib.ListN.{length, drop, length-drop}
 use Rattle.archive.specs.Layout.{sectionsOf}
@@ -10,11 +11,32 @@ use Rattle.archive.proofs.Splits.{FirstAt, first-at, rest-multiple, no-
 use Rattle.archive.proofs.sections.count_sections.Statement.{statement}
 use Rattle.archive.proofs.sections.count_sections.Tie as tie
 
+-- from byte `at` on, some counted before it
+record Rest (s : List ℕ) (n at count : ℕ) : Type 0 where
+  within : at ≤ n
+  all : n ≡ length s
+  multiple : at % 32 ≡ 0
+  small : count ≤ at
+  same : count + length (sectionsOf (entriesOf (drop at s))) ≡ length (sectionsOf (entriesOf s))
+
 abbrev Inv-loop : tie.InvT-loop
-Inv-loop list n at₀ count₀ at count = (at ≤ n) × (n ≡ length list) × (at % 32 ≡ 0) × (count ≤ at) × (count + length (sectionsOf (entriesOf (drop at list))) ≡ length (sectionsOf (entriesOf list)))
+Inv-loop list n at₀ count₀ at count = Rest list n at count
 
 abbrev μ-loop : tie.MeasureT-loop
 μ-loop list n at₀ count₀ at count = n - at
+
+at-first : (s : List ℕ) → Rest s (length s) 0 0
+at-first s = record { within = omega arith; all = refl; multiple = refl; small = omega arith; same = omega arith }
+
+module _ (s : List ℕ) (n at count : ℕ) (r : Rest s n at count) where
+  counted : n ≤ at → count ≡ length (sectionsOf (entriesOf s))
+  counted h =
+      let none = ap length (no-sections (drop at s) (rw length-drop (omega (arith, r)))) in
+      omega (arith, r)
+
+  passed : (size : ℕ) → FirstAt s at size → (next more : ℕ) → next ≡ at + size → more ≡ count + 1 → Rest s n next more
+  passed size f next more u v =
+      rw (u, v) (record { within = omega (arith, r); all = r .all; multiple = omega (arith, r); small = omega (arith, r); same = omega (arith, r) })
 
 module _ (c : tie.After-first-section Inv-loop μ-loop) where
   start : tie.Start Inv-loop μ-loop
@@ -27,13 +49,6 @@ module _ (c : tie.After-first-section Inv-loop μ-loop) where
   unfolding start loop
   found = search (first-at, arith)
 
-returns : tie.Need-returns Inv-loop μ-loop
-returns c =
-    let s : tie.Start Inv-loop μ-loop = search in
-    let l : tie.At-loop Inv-loop μ-loop = search in
-    let none = ap length (no-sections (drop (l .loop .at) (s .args .list .now)) (rw length-drop (omega arith))) in
-    omega arith
-
 pub count-sections-spec : {M : Type 1} → statement M
 unfolding start loop
 count-sections-spec =
@@ -41,7 +56,7 @@ count-sections-spec =
     (tie.spec
     Inv-loop
     μ-loop
-    (λ c. (search needs, refl, search needs, search needs, omega arith))
+    (λ c. search at-first)
     (λ c. search needs)
     (λ c. search needs)
     (λ c. search needs)
@@ -49,5 +64,5 @@ count-sections-spec =
     (λ c. omega (arith, found (search)))
     (λ c. omega (arith, found (search)))
     (λ c. omega (arith, found (search)))
-    (λ c. let f = found (search) in (omega arith, refl, omega arith, omega arith, omega arith))
-    returns)
+    (λ c. let f = found (search) in search passed)
+    (λ c. search counted))

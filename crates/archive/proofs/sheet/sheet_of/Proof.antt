@@ -18,43 +18,43 @@ use borrow.Author.Needs.{needs}
 use Rattle.archive.proofs.sheet.sheet_of.Statement.{statement}
 use Rattle.archive.proofs.sheet.sheet_of.Tie as tie
 
+-- from entry k on, of n
+record Rest (s : List ℕ) (year n : ℕ) (l : Ledger) (sheet : List (List Units)) (k : ℕ) : Type 0 where
+  within : k ≤ n
+  all : n ≡ length s / 32
+  cells : sheet ≡ grid (cellAt sheet)
+  same : sheetAfter year sheet l (firstEntries (n - k) (drop (32 * k) s)) ≡ grid (λ i m. cellAfter year i m nothing fresh (entriesOf s))
+
 abbrev Inv-loop : tie.InvT-loop
-Inv-loop list year n ledger₀ sheet₀ k₀ ledger sheet k =
-    (k ≤ n)
-    × (n ≡ length list / 32)
-    × (sheet ≡ grid (cellAt sheet))
-    × (sheetAfter year sheet ledger (firstEntries (n - k) (drop (32 * k) list)) ≡ grid (λ i m. cellAfter year i m nothing fresh (entriesOf list)))
+Inv-loop list year n ledger₀ sheet₀ k₀ ledger sheet k = Rest list year n ledger sheet k
 
 abbrev μ-loop : tie.MeasureT-loop
 μ-loop list year n ledger₀ sheet₀ k₀ ledger sheet k = n - k
 
-module _ (year : ℕ) (s : List ℕ) (n k : ℕ) (sheet all : List (List Units)) (l : Ledger) (rest : sheetAfter year sheet l (firstEntries (n - k) (drop (32 * k) s)) ≡ all) where
-  over : n ≤ k → sheet ≡ grid (cellAt sheet) → sheet ≡ all
-  over h e = sym (after-none year sheet l e) ∙ (rw (entries-none n k (drop (32 * k) s) h) at rest)
-
-  turn : k < n → (p : Posted) (next : List (List Units)) → p ≡ posted l (take (32 * k + 32 - 32 * k) (drop (32 * k) s))
-      → next ≡ grid (λ i m. cond (closesIn year m (p .answer .number) (take (32 * k + 32 - 32 * k) (drop (32 * k) s))) (bankIn (p .ledger) i) (cellAt sheet i m))
-      → (next ≡ grid (cellAt next)) × (sheetAfter year next (p .ledger) (firstEntries (n - (k + 1)) (drop (32 * (k + 1)) s)) ≡ all)
-  turn more p next e f =
-      let bytes = take (32 * k + 32 - 32 * k) (drop (32 * k) s) in
-      let later = firstEntries (n - (k + 1)) (drop (32 * (k + 1)) s) in (
-        grid-cells (λ i m. cond (closesIn year m (p .answer .number) bytes) (bankIn (p .ledger) i) (cellAt sheet i m)) next f,
-        after-next year sheet next l p bytes later e f ∙ (rw (entries-next n k s more) at rest),
-      )
-
-loop-holds : tie.Need-loop-holds Inv-loop μ-loop
+at-first : (s : List ℕ) (year : ℕ) (l : Ledger) (sheet : List (List Units)) → l ≡ fresh → sheet ≡ grid (λ i m. nothing) → Rest s year (length s / 32) l sheet 0
 unfolding entriesOf
-loop-holds c =
-    let s : tie.Start Inv-loop μ-loop = search in
-    let l : tie.After-fresh Inv-loop μ-loop = search in
-    let list = s .args .list .now in
-    let z : length list / 32 - 0 ≡ length list / 32 = omega arith in
-    let sheet = c .empty-sheet in (
-      search needs,
-      refl,
-      grid-cells (λ i m. nothing) (sheet .result) (sheet .ensures),
-      rw z (after-all (s .args .year) (sheet .result) (l .fresh .result) (firstEntries (length list / 32) list) (sheet .ensures) (l .fresh .ensures)),
-    )
+at-first s year l sheet e f =
+    let z : length s / 32 - 0 ≡ length s / 32 = omega arith in
+    record { within = omega arith; all = refl; cells = grid-cells (λ i m. nothing) sheet f; same = rw z (after-all year sheet l (firstEntries (length s / 32) s) f e) }
+
+module _ (s : List ℕ) (year n : ℕ) (l : Ledger) (sheet : List (List Units)) (k : ℕ) (r : Rest s year n l sheet k) where
+  all-noted : n ≤ k → sheet ≡ grid (λ i m. cellAfter year i m nothing fresh (entriesOf s))
+  all-noted h = sym (after-none year sheet l (r .cells)) ∙ (rw (entries-none n k (drop (32 * k) s) h) at (r .same))
+
+  abbrev entry : List ℕ
+  entry = take (32 * k + 32 - 32 * k) (drop (32 * k) s)
+
+  one-noted : k < n → (p : Posted) (next : List (List Units)) → p ≡ posted l entry
+      → next ≡ grid (λ i m. cond (closesIn year m (p .answer .number) entry) (bankIn (p .ledger) i) (cellAt sheet i m))
+      → (j : ℕ) → j ≡ k + 1 → Rest s year n (p .ledger) next j
+  one-noted more p next e f j u =
+      rw u
+      (record {
+        within = omega arith;
+        all = r .all;
+        cells = grid-cells (λ i m. cond (closesIn year m (p .answer .number) entry) (bankIn (p .ledger) i) (cellAt sheet i m)) next f;
+        same = after-next year sheet next l p entry (firstEntries (n - (k + 1)) (drop (32 * (k + 1)) s)) e f ∙ (rw (entries-next n k s more) at (r .same));
+      })
 
 -- the place before a ledger is made
 module _ (c : tie.After-post Inv-loop μ-loop) where
@@ -65,8 +65,7 @@ loop-again : tie.Need-loop-again Inv-loop μ-loop
 unfolding loop
 loop-again c =
     let p : tie.After-post Inv-loop μ-loop = search in
-    let t = turn _ _ _ _ _ _ _ (loop p .loop .inv .3) (omega arith) (p .post .result) (c .noted .result) (p .post .ensures) (c .noted .ensures) in
-    (omega arith, refl, t .0, t .1)
+    one-noted _ _ _ _ _ _ (loop p .loop .inv) (omega arith) (p .post .result) (c .noted .result) (p .post .ensures) (c .noted .ensures) _ refl
 
 pub sheet-of-spec : {M : Type 1} → statement M
 unfolding loop
@@ -77,7 +76,7 @@ sheet-of-spec =
     μ-loop
     (λ c κs. search needs)
     (λ c κs. search needs)
-    loop-holds
+    (λ c. search at-first)
     (λ c. search needs)
     (λ c. search needs)
     (λ c. search needs)
@@ -87,8 +86,8 @@ sheet-of-spec =
     (λ c. search needs)
     (λ c. search needs)
     (λ c. search needs)
-    (λ c κs. (loop (search) .loop .inv .2, simp (length-take, length-drop) (omega arith)))
+    (λ c κs. (loop (search) .loop .inv .cells, simp (length-take, length-drop) (omega arith)))
     (λ c. search needs)
     (λ c. search needs)
     loop-again
-    (λ c. let v : tie.At-loop Inv-loop μ-loop = search in over _ _ _ _ _ _ _ (v .loop .inv .3) (search) (v .loop .inv .2)))
+    (λ c. let v : tie.At-loop Inv-loop μ-loop = search in all-noted _ _ _ _ _ _ (v .loop .inv) (search)))

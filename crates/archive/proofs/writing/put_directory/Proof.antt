@@ -15,18 +15,66 @@ use Rattle.archive.proofs.Splits.{FirstAt, first-at, rest-multiple, no-
 use Rattle.archive.proofs.writing.put_directory.Statement.{statement}
 use Rattle.archive.proofs.writing.put_directory.Tie as tie
 
+-- `done` bytes of the directory are put, and the list is passed up to `at`
+record Rest (d s x : List ℕ) (count n at done : ℕ) : Type 0 where
+  within : at ≤ n
+  all : n ≡ length s
+  multiple : at % 32 ≡ 0
+  long : length x ≡ length d
+  copied : x ≡ paste d 8 (directory (bodyAt count) (sectionsOf (entriesOf s))) done
+  left : drop done (directory (bodyAt count) (sectionsOf (entriesOf s))) ≡ directory (8 + 8 * count + at) (sectionsOf (entriesOf (drop at s)))
+  counted : done + 8 * length (sectionsOf (entriesOf (drop at s))) ≡ 8 * count
+
 abbrev Inv-loop : tie.InvT-loop
-Inv-loop out₀ list count n body at₀ done₀ out at done =
-    (at ≤ n)
-    × (n ≡ length list)
-    × (at % 32 ≡ 0)
-    × (length out ≡ length out₀)
-    × (out ≡ paste out₀ 8 (directory (bodyAt count) (sectionsOf (entriesOf list))) done)
-    × (drop done (directory (bodyAt count) (sectionsOf (entriesOf list))) ≡ directory (8 + 8 * count + at) (sectionsOf (entriesOf (drop at list))))
-    × (done + 8 * length (sectionsOf (entriesOf (drop at list))) ≡ 8 * count)
+Inv-loop out₀ list count n body at₀ done₀ out at done = Rest out₀ list out count n at done
 
 abbrev μ-loop : tie.MeasureT-loop
 μ-loop out₀ list count n body at₀ done₀ out at done = n - at
+
+at-first : (d s : List ℕ) (count : ℕ) → count ≡ length (sectionsOf (entriesOf s)) → Rest d s d count (length s) 0 0
+unfolding bodyAt
+at-first d s count e =
+    let z : 8 + 8 * count + 0 ≡ 8 + 8 * count = omega arith in
+    record {
+      within = omega arith;
+      all = refl;
+      multiple = refl;
+      long = refl;
+      copied = paste-zero d 8 (directory (bodyAt count) (sectionsOf (entriesOf s)));
+      left = rw z;
+      counted = omega arith;
+    }
+
+module _ (d s x : List ℕ) (count n at done : ℕ) (r : Rest d s x count n at done) where
+  all-put : n ≤ at → x ≡ paste d 8 (directory (bodyAt count) (sectionsOf (entriesOf s))) (8 * count)
+  all-put h =
+      let none = ap length (no-sections (drop at s) (rw length-drop (omega (arith, r)))) in
+      let whole : done ≡ 8 * count = omega (arith, r) in
+      cc (r .copied)
+
+  -- one pair more, where there is room for all
+  pair-put : count ≡ length (sectionsOf (entriesOf s)) → 8 + 8 * count ≤ length d → (size : ℕ) → FirstAt s at size
+      → (y z : List ℕ) → y ≡ paste x (8 + done) (bytesOf 4 (8 + 8 * count + at)) 4 → z ≡ paste y (12 + done) (bytesOf 4 size) 4
+      → (next more : ℕ) → next ≡ at + size → more ≡ done + 8 → Rest d s z count n next more
+  pair-put e hd size f y z hy hz next more u v =
+      let whole = directory (bodyAt count) (sectionsOf (entriesOf s)) in
+      let size-whole = length-directory (bodyAt count) (sectionsOf (entriesOf s)) in
+      let j : 8 + 8 * count + (at + size) ≡ 8 + 8 * count + at + size = omega arith in
+      let t = pair-more d whole x y z done (8 + 8 * count + at) size (take size (drop at s)) (sectionsOf (entriesOf (drop (at + size) s))) (r .copied) (omega arith) (omega (arith, r)) (f .taken) (rw (f .split) at (r .left)) hy hz in
+      rw (u, v)
+      (record {
+        within = omega (arith, r);
+        all = r .all;
+        multiple = omega (arith, r);
+        long = ap length (t .0) ∙ length-paste d 8 whole (done + 8) (omega (arith, r)) (omega (arith, r));
+        copied = t .0;
+        left = rw j (t .1);
+        counted = omega (arith, r);
+      })
+
+-- a word put where there is room leaves the length
+kept : (d x : List ℕ) (at v : ℕ) → x ≡ paste d at (bytesOf 4 v) 4 → at + 4 ≤ length d → length x ≡ length d
+kept d x at v e h = ap length e ∙ length-paste d at (bytesOf 4 v) 4 (omega arith) (omega (arith, length-bytes 4 v))
 
 module _ (c : tie.After-first-section Inv-loop μ-loop) where
   start : tie.Start Inv-loop μ-loop
@@ -39,38 +87,6 @@ module _ (c : tie.After-first-section Inv-loop μ-loop) where
   unfolding start loop
   found = search (first-at, arith)
 
--- a word put where there is room leaves the length
-kept : (d x : List ℕ) (at v : ℕ) → x ≡ paste d at (bytesOf 4 v) 4 → at + 4 ≤ length d → length x ≡ length d
-kept d x at v e h = ap length e ∙ length-paste d at (bytesOf 4 v) 4 (omega arith) (omega (arith, length-bytes 4 v))
-
-module _ (d s x : List ℕ) (count at done : ℕ) (copied : x ≡ paste d 8 (directory (bodyAt count) (sectionsOf (entriesOf s))) done) where
-  all-put : length s ≤ at → done + 8 * length (sectionsOf (entriesOf (drop at s))) ≡ 8 * count → x ≡ paste d 8 (directory (bodyAt count) (sectionsOf (entriesOf s))) (8 * count)
-  all-put h e =
-      let none = ap length (no-sections (drop at s) (rw length-drop (omega arith))) in
-      let all : done ≡ 8 * count = omega arith in
-      cc
-
-  -- one pair more, and what is left then
-  pair-put : drop done (directory (bodyAt count) (sectionsOf (entriesOf s))) ≡ directory (8 + 8 * count + at) (sectionsOf (entriesOf (drop at s)))
-      → 8 + (done + 8) ≤ length d → done + 8 ≤ 8 * length (sectionsOf (entriesOf s)) → (size : ℕ) → FirstAt s at size
-      → (y z : List ℕ) → y ≡ paste x (8 + done) (bytesOf 4 (8 + 8 * count + at)) 4 → z ≡ paste y (12 + done) (bytesOf 4 size) 4
-      → (length z ≡ length d)
-      × (z ≡ paste d 8 (directory (bodyAt count) (sectionsOf (entriesOf s))) (done + 8))
-      × (drop (done + 8) (directory (bodyAt count) (sectionsOf (entriesOf s))) ≡ directory (8 + 8 * count + (at + size)) (sectionsOf (entriesOf (drop (at + size) s))))
-  pair-put left hd hs size f y z hy hz =
-      let whole = directory (bodyAt count) (sectionsOf (entriesOf s)) in
-      let long = length-directory (bodyAt count) (sectionsOf (entriesOf s)) in
-      let j : 8 + 8 * count + (at + size) ≡ 8 + 8 * count + at + size = omega arith in
-      let t = pair-more d whole x y z done (8 + 8 * count + at) size (take size (drop at s)) (sectionsOf (entriesOf (drop (at + size) s))) copied (omega arith) (omega arith) (f .taken) (rw (f .split) at left) hy hz in
-      (ap length (t .0) ∙ length-paste d 8 whole (done + 8) (omega arith) (omega arith), t .0, rw j (t .1))
-
-loop-holds : tie.Need-loop-holds Inv-loop μ-loop
-unfolding bodyAt
-loop-holds c =
-    let s : tie.Start Inv-loop μ-loop = search in
-    let z : 8 + 8 * s .args .count + 0 ≡ 8 + 8 * s .args .count = omega arith in
-    (search needs, refl, search needs, refl, paste-zero (s .args .out .now) 8 (directory (8 + 8 * s .args .count) (sectionsOf (entriesOf (s .args .list .now)))), rw z, omega arith)
-
 put-word-requires-2 : tie.Need-put-word-requires-2 Inv-loop μ-loop
 unfolding start loop
 put-word-requires-2 c κs =
@@ -79,18 +95,6 @@ put-word-requires-2 c κs =
     let f = found g in
     let same : length (w .put-word .last .0) ≡ length (loop g .loop .out) = search (kept, arith) in
     omega arith
-
-loop-again : tie.Need-loop-again Inv-loop μ-loop
-unfolding start loop
-loop-again c =
-    let g : tie.After-first-section Inv-loop μ-loop = search in
-    let w : tie.After-put-word Inv-loop μ-loop = search in
-    let v : tie.After-put-word2 Inv-loop μ-loop = search in
-    let f = found g in
-    let l = loop g .loop in
-    let s = start g .args in
-    let t = pair-put (s .out .now) (s .list .now) (l .out) (s .count) (l .at) (l .done) (l .inv .4) (l .inv .5) (omega arith) (omega arith) _ f _ _ (w .put-word .ensures) (v .put-word2 .ensures) in
-    (omega arith, refl, omega arith, t .0, t .1, t .2, omega arith)
 
 pub put-directory-spec : {M : Type 1} → statement M
 unfolding start loop
@@ -101,7 +105,7 @@ put-directory-spec =
     μ-loop
     (λ c. search needs)
     (λ c. search needs)
-    loop-holds
+    (λ c. search at-first)
     (λ c. search needs)
     (λ c. search needs)
     (λ c. search needs)
@@ -114,6 +118,6 @@ put-directory-spec =
     (λ c. omega (arith, found (search)))
     (λ c. omega (arith, found (search)))
     (λ c. omega (arith, found (search)))
-    loop-again
+    (λ c. let f = found (search) in search pair-put)
     (λ c. search needs)
-    (λ c. search (all-put, arith)))
+    (λ c. search all-put))
