@@ -56,19 +56,7 @@ module _ (s : List ℕ) (year n : ℕ) (l : Ledger) (sheet : List (List Units)) 
         same = after-next year sheet next l p entry (firstEntries (n - (k + 1)) (drop (32 * (k + 1)) s)) e f ∙ (rw (entries-next n k s more) at (r .same));
       })
 
--- the place before a ledger is made
-module _ (c : tie.After-post Inv-loop μ-loop) where
-  loop : tie.At-loop Inv-loop μ-loop
-  loop = search
-
-loop-again : tie.Need-loop-again Inv-loop μ-loop
-unfolding loop
-loop-again c =
-    let p : tie.After-post Inv-loop μ-loop = search in
-    one-noted _ _ _ _ _ _ (loop p .loop .inv) (omega arith) (p .post .result) (c .noted .result) (p .post .ensures) (c .noted .ensures) _ refl
-
 pub sheet-of-spec : {M : Type 1} → statement M
-unfolding loop
 sheet-of-spec =
     tie.close
     (tie.spec
@@ -86,8 +74,8 @@ sheet-of-spec =
     (λ c. search needs)
     (λ c. search needs)
     (λ c. search needs)
-    (λ c κs. (loop (search) .loop .inv .cells, simp (length-take, length-drop) (omega arith)))
+    (λ c κs. (search needs, simp (length-take, length-drop) (omega arith)))
     (λ c. search needs)
     (λ c. search needs)
-    loop-again
+    (λ c. search one-noted)
     (λ c. let v : tie.At-loop Inv-loop μ-loop = search in all-noted _ _ _ _ _ _ (v .loop .inv) (search)))
