@@ -1,4 +1,4 @@
--- At entry k, the entries from k on have the first refusal of all: the entry's own number is it, or the rest's is.
+-- The first refusal of the entries from k on is that of the list, as all before them passed: entry k has it, or passes too.
 use borrow.Author.Tests.{ne-eqb}
 use borrow.Author.Needs.{needs}
 use native.Mathlib.Omega.{arith}

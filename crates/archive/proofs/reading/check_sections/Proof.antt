@@ -1,4 +1,4 @@
--- At section i, the numbers of the sections from i on, counted from the entries before it, have the first refusal of all: a section refuses for all or passes.
+-- The first refusal of the sections from i on is that of the file, as all before them passed: section i has it, or passes too.
 use borrow.Author.Needs.{needs}
 use native.Mathlib.Nat.{add-sub-cancel-left}
 use native.Mathlib.Omega.{arith}

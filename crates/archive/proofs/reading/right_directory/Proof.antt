@@ -1,4 +1,4 @@
--- At pair i, the pairs from i on, after the end reached, are right just where all are: a wrong pair settles it, a right one moves the end.
+-- The pairs from i on, after the end reached, are right just where all are, as those before were: pair i is wrong and settles it, or moves the end.
 use borrow.Author.Tests.{not-true, not-false}
 use borrow.Author.Needs.{needs}
 use native.Mathlib.Omega.{arith}

@@ -1,4 +1,4 @@
--- The sections counted so far and those of the list from here on are all of them; each turn passes the first of the rest.
+-- The sections counted and those of the rest of the list are all of them: each turn counts the first of the rest and passes it.
 use borrow.Author.Needs.{needs}
 use native.Mathlib.Omega.{arith}
 use Prim.Native.Nat.{ℕ, _+_, _-_, _%_, _≤_}

@@ -1,4 +1,4 @@
--- The k entries passed and the lead of the rest are the lead of all; the first entry that closes a month ends the section.
+-- No entry passed closes a month, so the entries passed and the lead of the rest are the lead of the list: the first that closes one ends the section.
 use borrow.Author.Needs.{needs}
 use native.Mathlib.Omega.{arith}
 use Prim.Native.Nat.{ℕ, _+_, _*_, _-_, _/_, _%_, _<_, _≤_}

@@ -1,4 +1,4 @@
--- The sheet so far, carried over the entries from k on, is the sheet of all; one posting more and its column noted are one entry less.
+-- The sheet so far, carried over the entries from k on, is the sheet of all: posting entry k and noting it carries the sheet over one more.
 use Rattle.archive.proofs.Grids.{grid-cells, sheetAfter, after-none, after-next, after-all}
 use Rattle.archive.proofs.EntryLists.{entries-next, entries-none}
 use Rattle.archive.specs.YearSheet.{grid, nothing, cellAt, bankIn, closesIn, cellAfter}

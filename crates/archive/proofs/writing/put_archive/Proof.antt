@@ -4,7 +4,7 @@ use native.Mathlib.Omega.{arith}
 use Prim.Native.Nat.{ℕ, _+_, _*_, _%_, _≤_}
 use mathlib.Core.List.{List}
 use mathlib.Core.Path.{_≡_, ap, _∙_}
-use lib.Seq.{length-paste}
+use lib.Seq.{paste, length-paste}
 use lib.ListN.{length}
 use Rattle.archive.specs.Layout.{sectionsOf, header, directory, bodyAt}
 use Rattle.archive.specs.Entries.{entriesOf}
@@ -29,35 +29,20 @@ planned s =
     let size = length-archive list (w .whole) in
     record { whole = w .whole; few = w .few; short = omega (arith, w); fits = omega (arith, written-fits list room (s .pre)) }
 
-module _ (c : tie.After-put-header) where
-  start : tie.Start
-  start = search
+-- what each finds
+module _ (list d x : List ℕ) (n : ℕ) (w : Planned list (length d)) (e : n ≡ length (sectionsOf (entriesOf list))) (hx : x ≡ paste d 0 (header n) 8) where
+  headed : length x ≡ length d
+  headed = ap length hx ∙ length-paste d 0 (header n) 8 (omega (arith, w)) (omega (arith, length-header n))
 
-  headed : length (c .put-header .last .0) ≡ length (start .args .out .now)
-  unfolding start
-  headed =
-      let n : tie.After-count-sections = search in
-      let w = planned (search) in
-      ap length (c .put-header .ensures) ∙ length-paste (start .args .out .now) 0 (header (n .count-sections .result)) 8 (omega arith) (omega (arith, length-header (n .count-sections .result)))
+  pairs-fit : 8 + 8 * n ≤ length x
+  pairs-fit = omega (arith, w, headed)
 
-module _ (c : tie.After-put-directory) where
-  at-header : tie.After-put-header
-  at-header = search
-
-  listed : length (c .put-directory .last .0) ≡ length (start at-header .args .out .now)
-  unfolding at-header start
-  listed =
-      let n : tie.After-count-sections = search in
-      let s : tie.Start = search in
-      let w = planned s in
-      let x = headed at-header in
-      let pairs = directory (bodyAt (n .count-sections .result)) (sectionsOf (entriesOf (s .args .list .now))) in
-      ap length (c .put-directory .ensures)
-      ∙ length-paste (at-header .put-header .last .0) 8 pairs (8 * n .count-sections .result) (omega arith) (omega (arith, length-directory (bodyAt (n .count-sections .result)) (sectionsOf (entriesOf (s .args .list .now)))))
-      ∙ x
+  list-fits : (y : List ℕ) → y ≡ paste x 8 (directory (bodyAt n) (sectionsOf (entriesOf list))) (8 * n) → 8 + 8 * n + length list ≤ length y
+  list-fits y hy =
+      let same = ap length hy ∙ length-paste x 8 (directory (bodyAt n) (sectionsOf (entriesOf list))) (8 * n) pairs-fit (omega (arith, length-directory (bodyAt n) (sectionsOf (entriesOf list)))) in
+      omega (arith, w, headed)
 
 pub put-archive-spec : {M : Type 1} → statement M
-unfolding start at-header
 put-archive-spec =
     tie.close
     (tie.spec
@@ -65,7 +50,7 @@ put-archive-spec =
     (λ c. omega (arith, planned (search)))
     (λ c. omega (arith, planned (search)))
     (λ c κs. omega (arith, planned (search)))
-    (λ c κs. let w = planned (search) in let x = headed (search) in (w .whole, search needs, omega arith, omega arith, omega arith))
-    (λ c κs. let w = planned (search) in let x = listed (search) in (w .whole, omega arith))
+    (λ c κs. let w = planned (search) in (w .whole, search needs, omega arith, omega arith, search pairs-fit))
+    (λ c κs. let w = planned (search) in (w .whole, search list-fits))
     (λ c. search needs)
     (λ c. let w = planned (search) in search all-put))

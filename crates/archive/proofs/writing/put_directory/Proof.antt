@@ -1,4 +1,4 @@
--- What stands of the directory after `done` bytes is that of the sections from `at` on: each turn puts the first one's pair.
+-- The bytes still to come are the directory of the sections from `at` on: each turn puts the first one's pair and passes it.
 use borrow.Author.Needs.{needs}
 use native.Mathlib.Omega.{arith}
 use Prim.Native.Nat.{ℕ, _+_, _*_, _-_, _%_, _≤_}
