@@ -43,8 +43,7 @@ paste-more d s x at j n hd hs e =
 -- ---- one section more: its bytes are copied to the part of the output from its offset
 
 pub section-bytes : (s : List ℕ) (at size : ℕ) → at + size ≤ length s → length (take (at + size - at) (drop at s)) ≡ size
-section-bytes s at size h =
-    ap (λ (n : ℕ). length (take n (drop at s))) (add-sub-cancel-left at size) ∙ length-take-le size (drop at s) (rw length-drop (omega arith))
+section-bytes s at size h = rw add-sub-cancel-left (length-take-le size (drop at s) (rw length-drop (omega arith)))
 
 pub section-stored : (d s x ys : List ℕ) (body at size : ℕ) → x ≡ paste d body s at → body ≤ length d → at + size ≤ length s
     → ys ≡ take (length (take (at + size - at) (drop at s))) (take (at + size - at) (drop at s)) ++ drop (length (take (at + size - at) (drop at s))) (take (length x - (body + at)) (drop (body + at) x))
