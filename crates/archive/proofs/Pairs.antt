@@ -1,4 +1,4 @@
--- A right directory's pairs follow each other up to the file's end, so each lies within the file, is not empty and holds whole entries.
+-- A right directory's pairs follow each other up to the file's end, so each lies within the file and holds whole entries.
 use borrow.Author.Tests.{eqb-true, ltb-true}
 use native.Mathlib.Omega.{arith}
 use Prim.Native.Nat.{ℕ, zero, suc, _+_, _-_, _%_, _<_, _≤_}
@@ -28,7 +28,6 @@ length-pairs a i (suc n) = ap suc (length-pairs a (i + 1) n)
 
 pub record Held (size : ℕ) (p : Pair) : Type 0 where
   pub within : p .0 + p .1 ≤ size
-  pub positive : 0 < p .1
   pub multiple : p .1 % 32 ≡ 0
 
 length-right : (n : ℕ) → rightLength n ≡ true → (0 < n) × (n % 32 ≡ 0)
@@ -60,7 +59,7 @@ first-held size end p ps h =
     let e = right-start size end p ps h in
     let l = right-length size end p ps h in
     let r = right-end size (end + p .1) ps (right-rest size end p ps h) in
-    record { within = omega arith; positive = l .0; multiple = l .1 }
+    record { within = omega arith; multiple = l .1 }
 
 held-from : (a : List ℕ) (end j n i : ℕ) → rightPairs (length a) end (pairsFrom a j n) ≡ true → i < n → Held (length a) (pairAt a (j + i))
 unfolding pairsFrom
