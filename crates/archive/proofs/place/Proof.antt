@@ -9,21 +9,26 @@ use lib.ListN.{length}
 use Rattle.archive.specs.Words.{wordAt}
 use Rattle.archive.specs.Reading.{sectionCount, checked, pairAt, nowhere, placeOf}
 use Rattle.archive.specs.declared.entries.Checked.{Checked}
+use Rattle.archive.specs.declared.reading.Place.{Place}
 use Rattle.archive.proofs.Pairs.{pair-held}
 use Rattle.archive.proofs.Headers.{Measured}
 use Rattle.archive.proofs.Acceptance.{checked-tells, accepted-sizes}
 use Rattle.archive.proofs.place.Statement.{statement}
 use Rattle.archive.proofs.place.Tie as tie
 
+nowhere-within : (a : List ℕ) (number index : ℕ) (r : Place) → r ≡ nowhere number index → r .start + r .length ≤ length a
+unfolding nowhere
+nowhere-within a number index r e = rw e (omega arith)
+
 module _ (a : List ℕ) (i : ℕ) (c : Checked) (p : c ≡ checked a) where
-  refused : (c .number ≡ 0 → ⊥) → nowhere (c .number) (c .index) ≡ placeOf a i
+  refused : (c .number ≡ 0 → ⊥) → (r : Place) → r ≡ nowhere (c .number) (c .index) → r ≡ placeOf a i
   unfolding placeOf
-  refused d = cc (ne-eqb (c .number) 0 d)
+  refused d r e = cc (ne-eqb (c .number) 0 d)
 
   module _ (z : c .number ≡ 0) (n : ℕ) (q : n ≡ sectionCount a) where
-    none-such : n ≤ i → nowhere 13 0 ≡ placeOf a i
+    none-such : n ≤ i → (r : Place) → r ≡ nowhere 13 0 → r ≡ placeOf a i
     unfolding placeOf
-    none-such h = cc (le-ltb i n h)
+    none-such h r e = cc (le-ltb i n h)
 
     module _ (h : i < n) (o l : ℕ) (e : o ≡ wordAt a (8 + 8 * i)) (f : l ≡ wordAt a (12 + 8 * i)) where
       found : record { number = 0; index = 0; start = o; length = l } ≡ placeOf a i
@@ -43,16 +48,16 @@ module _ (c : tie.After-check) (z : c .check .result .number ≡ 0) where
   sizes = search accepted-sizes
 
 pub place-spec : {M : Type 1} → statement M
-unfolding start nowhere
+unfolding start
 place-spec =
     tie.close
     (tie.spec
     (λ c κs. search needs)
     (λ c κs. search needs)
-    (λ c. rw (c .nowhere .ensures) (search refused, omega arith))
+    (λ c. (search refused, search nowhere-within))
     (λ c κs. omega (arith, sizes (search) (search)))
     (λ c κs. search needs)
-    (λ c. rw (c .nowhere2 .ensures) (search none-such, omega arith))
+    (λ c. (search none-such, search nowhere-within))
     (λ c. omega (arith, sizes (search) (search)))
     (λ c. omega (arith, sizes (search) (search)))
     (λ c κs. omega (arith, sizes (search) (search)))
