@@ -9,7 +9,7 @@ use Rattle.archive.proofs.words.put_word.Tie as tie
 
 returns : tie.Need-returns
 unfolding bytesOf
-returns c = four-stored (c .args .out .now) (c .args .at) _ _ _ _ (omega arith)
+returns c = let s : tie.Start = search in four-stored (s .args .out .now) (s .args .at) _ _ _ _ (omega arith)
 
 pub put-word-spec : {M : Type 1} → statement M
 put-word-spec =

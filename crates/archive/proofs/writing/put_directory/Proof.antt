@@ -52,29 +52,30 @@ module _ (d s x : List ℕ) (count n at done : ℕ) (r : Rest d s x count n at d
       let whole : done ≡ 8 * count = omega (arith, r) in
       cc (r .copied)
 
-  -- one pair more, where there is room for all
-  pair-put : count ≡ length (sectionsOf (entriesOf s)) → 8 + 8 * count ≤ length d → (size : ℕ) → FirstAt s at size
-      → (y z : List ℕ) → y ≡ paste x (8 + done) (bytesOf 4 (8 + 8 * count + at)) 4 → z ≡ paste y (12 + done) (bytesOf 4 size) 4
-      → (next more : ℕ) → next ≡ at + size → more ≡ done + 8 → Rest d s z count n next more
-  pair-put e hd size f y z hy hz next more u v =
-      let whole = directory (bodyAt count) (sectionsOf (entriesOf s)) in
-      let size-whole = length-directory (bodyAt count) (sectionsOf (entriesOf s)) in
-      let j : 8 + 8 * count + (at + size) ≡ 8 + 8 * count + at + size = omega arith in
-      let t = pair-more d whole x y z done (8 + 8 * count + at) size (take size (drop at s)) (sectionsOf (entriesOf (drop (at + size) s))) (r .copied) (omega arith) (omega (arith, r)) (f .taken) (rw (f .split) at (r .left)) hy hz in
-      rw (u, v)
-      (record {
-        within = omega (arith, r);
-        all = r .all;
-        multiple = omega (arith, r);
-        long = ap length (t .0) ∙ length-paste d 8 whole (done + 8) (omega (arith, r)) (omega (arith, r));
-        copied = t .0;
-        left = rw j (t .1);
-        counted = omega (arith, r);
-      })
+  -- one pair more, where there is room for all: its first word is put, then its second
+  module _ (e : count ≡ length (sectionsOf (entriesOf s))) (hd : 8 + 8 * count ≤ length d) (size : ℕ) (f : FirstAt s at size)
+      (y : List ℕ) (hy : y ≡ paste x (8 + done) (bytesOf 4 (8 + 8 * count + at)) 4) where
+    second-fits : 12 + done + 4 ≤ length y
+    second-fits =
+        let same = ap length hy ∙ length-paste x (8 + done) (bytesOf 4 (8 + 8 * count + at)) 4 (omega (arith, r)) (omega (arith, length-bytes 4 (8 + 8 * count + at))) in
+        omega (arith, r)
 
--- a word put where there is room leaves the length
-kept : (d x : List ℕ) (at v : ℕ) → x ≡ paste d at (bytesOf 4 v) 4 → at + 4 ≤ length d → length x ≡ length d
-kept d x at v e h = ap length e ∙ length-paste d at (bytesOf 4 v) 4 (omega arith) (omega (arith, length-bytes 4 v))
+    pair-put : (z : List ℕ) → z ≡ paste y (12 + done) (bytesOf 4 size) 4 → (next more : ℕ) → next ≡ at + size → more ≡ done + 8 → Rest d s z count n next more
+    pair-put z hz next more u v =
+        let whole = directory (bodyAt count) (sectionsOf (entriesOf s)) in
+        let size-whole = length-directory (bodyAt count) (sectionsOf (entriesOf s)) in
+        let j : 8 + 8 * count + (at + size) ≡ 8 + 8 * count + at + size = omega arith in
+        let t = pair-more d whole x y z done (8 + 8 * count + at) size (take size (drop at s)) (sectionsOf (entriesOf (drop (at + size) s))) (r .copied) (omega arith) (omega (arith, r)) (f .taken) (rw (f .split) at (r .left)) hy hz in
+        rw (u, v)
+        (record {
+          within = omega (arith, r);
+          all = r .all;
+          multiple = omega (arith, r);
+          long = ap length (t .0) ∙ length-paste d 8 whole (done + 8) (omega (arith, r)) (omega (arith, r));
+          copied = t .0;
+          left = rw j (t .1);
+          counted = omega (arith, r);
+        })
 
 module _ (c : tie.After-first-section Inv-loop μ-loop) where
   start : tie.Start Inv-loop μ-loop
@@ -86,15 +87,6 @@ module _ (c : tie.After-first-section Inv-loop μ-loop) where
   found : FirstAt (start .args .list .now) (loop .loop .at) (c .first-section .result)
   unfolding start loop
   found = search (first-at, arith)
-
-put-word-requires-2 : tie.Need-put-word-requires-2 Inv-loop μ-loop
-unfolding start loop
-put-word-requires-2 c κs =
-    let g : tie.After-first-section Inv-loop μ-loop = search in
-    let w : tie.After-put-word Inv-loop μ-loop = search in
-    let f = found g in
-    let same : length (w .put-word .last .0) ≡ length (loop g .loop .out) = search (kept, arith) in
-    omega arith
 
 pub put-directory-spec : {M : Type 1} → statement M
 unfolding start loop
@@ -114,7 +106,7 @@ put-directory-spec =
     (λ c. omega (arith, found (search)))
     (λ c κs. omega (arith, found (search)))
     (λ c. omega (arith, found (search)))
-    put-word-requires-2
+    (λ c κs. let f = found (search) in search second-fits)
     (λ c. omega (arith, found (search)))
     (λ c. omega (arith, found (search)))
     (λ c. omega (arith, found (search)))

@@ -12,7 +12,10 @@ use Rattle.archive.proofs.writing.put_header.Tie as tie
 
 returns : tie.Need-returns
 unfolding header bytesOf
-returns c = let s = c .args .out .now in let n = c .args .count in sets-eq (69 ∷ 70 ∷ 66 ∷ 49 ∷ n % 256 ∷ n / 256 % 256 ∷ 0 ∷ 0 ∷ []) s 0 (omega arith)
+returns c =
+    let s : tie.Start = search in
+    let n = s .args .count in
+    sets-eq (69 ∷ 70 ∷ 66 ∷ 49 ∷ n % 256 ∷ n / 256 % 256 ∷ 0 ∷ 0 ∷ []) (s .args .out .now) 0 (omega arith)
 
 pub put-header-spec : {M : Type 1} → statement M
 put-header-spec =
