@@ -1,4 +1,4 @@
--- What a 0 from the writer tells of a list, and a 0 from the reader of an archive: every check passed, and so the other way.
+-- A 0 is the answer of one row of the checks only, the one past all of them: so a 0 tells that every check passed, and where every check passes it is 0.
 use borrow.Author.Tests.{eqb-true, eqb-false, ltb-false, eq-eqb, le-ltb}
 use native.Mathlib.Omega.{arith}
 use Prim.Native.Nat.{ℕ, _%_, _≤_}
@@ -15,6 +15,7 @@ use Rattle.archive.specs.Writing.{listChecked, tooLarge, unwritten, writ
 use Rattle.archive.specs.Reading.{wrongHeader, rightDirectory, numbersOf, partsOf, checked}
 use Rattle.archive.specs.declared.entries.Checked.{Checked}
 use Rattle.archive.proofs.Refusals.{Zeros, none-refused, all-zero}
+use Rattle.archive.proofs.Headers.{Measured, measured}
 
 -- ---- the writer
 
@@ -92,6 +93,9 @@ checked-tells a h =
 pub readable-checked : (a : List ℕ) → Readable a → checked a ≡ finding 0 0
 unfolding checked
 readable-checked a r = rw (r .headed, r .directed) (none-refused 0 (numbersOf (partsOf a)) (r .zeros))
+
+pub accepted-sizes : (a : List ℕ) (c : Checked) → c ≡ checked a → c .number ≡ 0 → Measured a
+accepted-sizes a c e z = measured a (checked-tells a (cc) .headed)
 
 -- no number, no index
 pub checked-nowhere : (a : List ℕ) → checked a .number ≡ 0 → checked a .index ≡ 0

@@ -1,4 +1,4 @@
--- How long an archive is, and that its three parts put one after the other are all of it.
+-- Header, directory and list each begin where the one before it ends, so their lengths add up and the three together are the archive.
 use native.Mathlib.Omega.{arith}
 use Prim.Native.Nat.{ℕ, _+_, _*_, _%_}
 use mathlib.Core.Path.{_≡_, refl, sym, ap, _∙_}
@@ -18,8 +18,7 @@ sections-all list h = together-sections (entriesOf list) ∙ together-all list h
 
 pub length-archive : (list : List ℕ) → length list % 32 ≡ 0 → length (archiveOf list) ≡ 8 + 8 * length (sectionsOf (entriesOf list)) + length list
 unfolding archiveOf bodyAt
-length-archive list h =
-    length-packed (sectionsOf (entriesOf list)) ∙ ap (λ (l : List ℕ). 8 + 8 * length (sectionsOf (entriesOf list)) + length l) (sections-all list h)
+length-archive list h = rw (length-packed, sections-all list h)
 
 -- a copy that goes on where the one before it ended
 appended : (d s t : List ℕ) (i m : ℕ) → length s ≡ i → length t ≡ m → paste (s ++ drop i d) i t m ≡ s ++ t ++ drop (i + m) d
@@ -30,9 +29,7 @@ appended d s t i m e f =
 archive-parts : (list : List ℕ) (count : ℕ) → length list % 32 ≡ 0 → count ≡ length (sectionsOf (entriesOf list)) → header count ++ directory (bodyAt count) (sectionsOf (entriesOf list)) ++ list ≡ archiveOf list
 unfolding archiveOf packed
 archive-parts list count h n =
-    let ss = sectionsOf (entriesOf list) in
-    ap (λ (k : ℕ). header k ++ directory (bodyAt k) ss ++ list) n
-    ∙ ap (λ (l : List ℕ). header (length ss) ++ directory (bodyAt (length ss)) ss ++ l) (sym (sections-all list h))
+    cc (sections-all list h)
 
 pub all-put : (list d x y z : List ℕ) (count : ℕ) → length list % 32 ≡ 0 → count ≡ length (sectionsOf (entriesOf list))
     → x ≡ paste d 0 (header count) 8 → y ≡ paste x 8 (directory (bodyAt count) (sectionsOf (entriesOf list))) (8 * count) → z ≡ paste y (8 + 8 * count) list (length list)

@@ -1,4 +1,4 @@
--- The directory: what is written for sections is read as their pairs, and what is read is so written.
+-- A pair is two words of four bytes, so the directory is cut every eight bytes; a word comes back from its bytes, and the bytes from the word.
 use native.Mathlib.Omega.{arith}
 use Prim.Native.Nat.{ℕ, zero, suc, _+_, _*_, _<_, _≤_}
 use mathlib.Core.Path.{_≡_, refl, sym, ap, _∙_}
@@ -86,17 +86,17 @@ directory-again a off i ss b h e = directory-bytes off ss ∙ ap pairBytes (sym 
 
 -- ---- a pair more, as it is written
 
-pub directory-next : (off : ℕ) (s : List ℕ) (ss : List (List ℕ)) → directory off (s ∷ ss) ≡ bytesOf 4 off ++ (bytesOf 4 (length s) ++ directory (off + length s) ss)
+directory-next : (off : ℕ) (s : List ℕ) (ss : List (List ℕ)) → directory off (s ∷ ss) ≡ bytesOf 4 off ++ (bytesOf 4 (length s) ++ directory (off + length s) ss)
 unfolding directory
 directory-next off s ss = append-assoc (bytesOf 4 off) (bytesOf 4 (length s)) (directory (off + length s) ss)
 
 -- a word is put where the copy has come to
 module _ (d s x : List ℕ) (at j v : ℕ) (rest : List ℕ) (e : drop j s ≡ bytesOf 4 v ++ rest) where
-  pub word-after : drop (j + 4) s ≡ rest
+  word-after : drop (j + 4) s ≡ rest
   unfolding bytesOf
   word-after = sym (drop-drop 4 j s) ∙ ap (drop 4) e
 
-  pub word-more : x ≡ paste d at s j → at ≤ length d → j ≤ length s → paste x (at + j) (bytesOf 4 v) 4 ≡ paste d at s (j + 4)
+  word-more : x ≡ paste d at s j → at ≤ length d → j ≤ length s → paste x (at + j) (bytesOf 4 v) 4 ≡ paste d at s (j + 4)
   unfolding bytesOf
   word-more h hd hs =
       append-assoc (take (at + j) x) (bytesOf 4 v) (drop (at + j + 4) x)

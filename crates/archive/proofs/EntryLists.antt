@@ -1,4 +1,4 @@
--- A list of bytes as its entries: one after the other, and some of them.
+-- Every entry has 32 bytes, so to pass k entries of a list is to pass 32 k of its bytes, and whole entries put together are entries again.
 use native.Mathlib.Omega.{arith}
 use native.Mathlib.Nat.{zero-add}
 use Prim.Native.Nat.{ℕ, zero, suc, _+_, _*_, _-_, _/_, _%_, _<_, _≤_}
@@ -54,7 +54,7 @@ pub together-all : (s : List ℕ) → length s % 32 ≡ 0 → together (entriesO
 unfolding entriesOf
 together-all s h = together-entries (length s / 32) s ∙ take-all (32 * (length s / 32)) s (omega arith)
 
-pub entries-append : (n m : ℕ) (s t : List ℕ) → length s ≡ 32 * n → firstEntries (n + m) (s ++ t) ≡ firstEntries n s ++ firstEntries m t
+entries-append : (n m : ℕ) (s t : List ℕ) → length s ≡ 32 * n → firstEntries (n + m) (s ++ t) ≡ firstEntries n s ++ firstEntries m t
 unfolding firstEntries
 entries-append zero m [] t h = rw (zero-add m)
 entries-append zero m (x ∷ s) t h = absurd (omega arith)

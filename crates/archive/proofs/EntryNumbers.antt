@@ -1,4 +1,4 @@
--- The reader's number of one entry: 0 where its form is right, and its place in its section too.
+-- The reader's number of an entry is 0 just where its form is right and its place in its section too: it is asked for the one, then for the other.
 use borrow.Author.Tests.{eqb-true, eqb-false, not-false}
 use native.Mathlib.Omega.{arith}
 use Prim.Native.Nat.{ℕ}
@@ -29,10 +29,6 @@ one-entry e h = rw h (ap (λ (l : List ℕ). l ∷ []) (take-all 32 e (omega ari
 
 -- ---- an entry's number: 0 where its form is right and its place too
 
-pub number-zero : (ends final : Bool) (e : List ℕ) → formNumber e ≡ 0 → misplaced ends final e ≡ false → numberIn ends final e ≡ 0
-unfolding numberIn
-number-zero ends final e f m = rw (f, m)
-
 number-case : (n : ℕ) (b m : Bool) → eqb n 0 ≡ b → cond b (cond m 10 0) n ≡ 0 → (n ≡ 0) × (m ≡ false)
 number-case n true true e h = absurd (omega arith)
 number-case n true false e h = (eqb-true n 0 e, refl)
@@ -43,18 +39,6 @@ unfolding numberIn
 number-parts ends final e h = number-case (formNumber e) (eqb (formNumber e) 0) (misplaced ends final e) refl h
 
 -- ---- its place
-
-pub closing-ends : (final : Bool) (e : List ℕ) → closesMonth e ≡ true → misplaced true final e ≡ false
-unfolding misplaced
-closing-ends final e h = rw h
-
-pub other-ends : (e : List ℕ) → closesMonth e ≡ false → misplaced true true e ≡ false
-unfolding misplaced
-other-ends e h = rw h
-
-pub other-within : (final : Bool) (e : List ℕ) → closesMonth e ≡ false → misplaced false final e ≡ false
-unfolding misplaced
-other-within final e h = rw h
 
 within-case : (c : Bool) (final : Bool) → cond c (not false) (false && not final) ≡ false → c ≡ false
 within-case true final h = h

@@ -1,4 +1,4 @@
--- The first refusal of a list of numbers.
+-- The first refusal of two lists of numbers, one after the other, is the first list's where it has one, else the second's, counted on.
 use borrow.Author.Tests.{eq-eqb, ne-eqb, eqb-true, eqb-false}
 use native.Mathlib.Omega.{arith}
 use Prim.Native.Nat.{ℕ, suc, _+_, _-_, _<_}
@@ -8,21 +8,6 @@ use mathlib.Core.List.{List, [], _∷_, _++_}
 use lib.Dec.{eqb}
 use lib.ListN.{length}
 use Rattle.archive.specs.Entries.{finding, firstRefusal}
-
-pub refusal-none : (i : ℕ) → firstRefusal i [] ≡ finding 0 0
-unfolding firstRefusal
-refusal-none i = refl
-
-module _ (i n : ℕ) (ns : List ℕ) where
-  pub refusal-here : (n ≡ 0 → ⊥) → firstRefusal i (n ∷ ns) ≡ finding n i
-  unfolding firstRefusal
-  refusal-here h = rw (ne-eqb n 0 h)
-
-  pub refusal-later : n ≡ 0 → firstRefusal i (n ∷ ns) ≡ firstRefusal (i + 1) ns
-  unfolding firstRefusal
-  refusal-later h = rw (eq-eqb n 0 h)
-
--- ---- two lists of numbers, one after the other
 
 pass : (b : Bool) (i n : ℕ) (ns ms : List ℕ) → eqb n 0 ≡ b → (firstRefusal (i + 1) ns .number ≡ 0 → firstRefusal (i + 1) (ns ++ ms) ≡ firstRefusal (i + 1 + length ns) ms)
     → cond b (firstRefusal (i + 1) ns) (finding n i) .number ≡ 0 → cond b (firstRefusal (i + 1) (ns ++ ms)) (finding n i) ≡ firstRefusal (i + suc (length ns)) ms

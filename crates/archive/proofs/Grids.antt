@@ -1,4 +1,4 @@
--- The year sheet as a grid: what its cells hold, which grids are the same, and one cell, column or posting more.
+-- Two grids are the same where their 16 by 12 cells are: so a cell stored, a column filled or a posting noted is looked at cell by cell.
 use borrow.Author.Tests.{eqb-true, eqb-false, lt-ltb, le-ltb, ltb-true, ltb-false}
 use native.Mathlib.Omega.{arith}
 use Prim.Native.Nat.{ℕ, zero, suc, _+_, _<_, _≤_}
@@ -28,12 +28,12 @@ module _ {A : Type 0} where
   length-upTo zero f = refl
   length-upTo (suc n) f = ap suc (length-upTo n (λ i. f (suc i)))
 
-  pub same-upTo : (n : ℕ) (f g : ℕ → A) → ((i : ℕ) → i < n → f i ≡ g i) → upTo n f ≡ upTo n g
+  same-upTo : (n : ℕ) (f g : ℕ → A) → ((i : ℕ) → i < n → f i ≡ g i) → upTo n f ≡ upTo n g
   unfolding upTo
   same-upTo zero f g h = refl
   same-upTo (suc n) f g h = ap₂ (λ x xs. x ∷ xs) (h 0 (omega arith)) (same-upTo n (λ i. f (suc i)) (λ i. g (suc i)) (λ i k. h (suc i) (omega arith)))
 
-  pub set-upTo : (n : ℕ) (f : ℕ → A) (i : ℕ) (x : A) → i < n → set (upTo n f) i x ≡ upTo n (λ j. cond (eqb i j) x (f j))
+  set-upTo : (n : ℕ) (f : ℕ → A) (i : ℕ) (x : A) → i < n → set (upTo n f) i x ≡ upTo n (λ j. cond (eqb i j) x (f j))
   unfolding upTo
   set-upTo zero f i x h = absurd (omega arith)
   set-upTo (suc n) f zero x h = ap (λ xs. x ∷ xs) (same-upTo n (λ j. f (suc j)) (λ j. cond (eqb 0 (suc j)) x (f (suc j))) (λ j k. rw (eqb·zero-suc j)))
@@ -46,11 +46,11 @@ module _ {A : Type 0} where
 -- ---- a grid
 
 module _ (f : ℕ → ℕ → Units) where
-  pub cell-grid : (i m : ℕ) → i < 16 → m < 12 → cellAt (grid f) i m ≡ f i m
+  cell-grid : (i m : ℕ) → i < 16 → m < 12 → cellAt (grid f) i m ≡ f i m
   unfolding grid cellAt
   cell-grid i m h k = ap (λ row. getD row m nothing) (get-upTo 16 (λ j. upTo 12 (f j)) i [] h) ∙ get-upTo 12 (f i) m nothing k
 
-  pub same-grid : (g : ℕ → ℕ → Units) → ((i m : ℕ) → i < 16 → m < 12 → f i m ≡ g i m) → grid f ≡ grid g
+  same-grid : (g : ℕ → ℕ → Units) → ((i m : ℕ) → i < 16 → m < 12 → f i m ≡ g i m) → grid f ≡ grid g
   unfolding grid
   same-grid g h = same-upTo 16 (λ i. upTo 12 (f i)) (λ i. upTo 12 (g i)) (λ i k. same-upTo 12 (f i) (g i) (λ m. h i m k))
 
@@ -63,7 +63,7 @@ module _ (f : ℕ → ℕ → Units) where
   row-stored false i j m x e = refl
 
   -- one cell, as an assignment stores it
-  pub cell-stored : (i m : ℕ) (x : Units) → i < 16 → m < 12 → set (grid f) i (set (getD (grid f) i []) m x) ≡ grid (λ j k. cond (eqb i j && eqb m k) x (f j k))
+  cell-stored : (i m : ℕ) (x : Units) → i < 16 → m < 12 → set (grid f) i (set (getD (grid f) i []) m x) ≡ grid (λ j k. cond (eqb i j && eqb m k) x (f j k))
   unfolding grid
   cell-stored i m x h k =
       let rows : ℕ → List Units = λ j. upTo 12 (f j) in
@@ -89,9 +89,6 @@ module _ (bank : ℕ → Units) where
   module _ (f : ℕ → ℕ → Units) where
     pub same-columns : (p q : ℕ → Bool) → ((m : ℕ) → p m ≡ q m) → grid (λ i m. cond (p m) (bank i) (f i m)) ≡ grid (λ i m. cond (q m) (bank i) (f i m))
     same-columns p q h = same-grid (λ i m. cond (p m) (bank i) (f i m)) (λ i m. cond (q m) (bank i) (f i m)) (λ i m k l. ap (λ b. cond b (bank i) (f i m)) (h m))
-
-    pub no-column : (p : ℕ → Bool) → ((m : ℕ) → p m ≡ false) → grid f ≡ grid (λ i m. cond (p m) (bank i) (f i m))
-    no-column p h = same-columns (λ m. false) p (λ m. sym (h m))
 
     -- the first so many rows have it
     abbrev pub filled : ℕ → ℕ → ℕ → ℕ → Units

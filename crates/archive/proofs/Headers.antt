@@ -1,4 +1,4 @@
--- The first eight bytes: what the writer puts there, what the reader asks of them, and that the two agree.
+-- The eight bytes that the writer puts are those that the reader asks for: four constants, the count in two bytes, two zeros.
 use borrow.Author.Tests.{eqb-true, ltb-false, eq-eqb, le-ltb, not-false}
 use native.Mathlib.Omega.{arith}
 use Prim.Native.Nat.{ℕ, _+_, _*_, _/_, _%_, _<_, _≤_}

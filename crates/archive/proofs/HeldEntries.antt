@@ -1,4 +1,4 @@
--- The entries that an archive holds, and a replay by its parts.
+-- An accepted archive holds all that follows its directory, a refused one nothing: the definition asks for the number alone.
 use borrow.Author.Tests.{eq-eqb, ne-eqb}
 use Prim.Native.Nat.{ℕ, _+_, _*_, _-_}
 use mathlib.Core.Path.{_≡_, ap, _∙_}

@@ -1,3 +1,4 @@
+-- From bytes to entries, from entries to sections, from sections to the archive and back; then the sheet and the replay.
 pub mod Numbers
 pub mod EntryLists
 pub mod Splits
@@ -14,7 +15,6 @@ pub mod Stretches
 pub mod Acceptance
 pub mod Packing
 pub mod Trips
-pub mod EntryPlaces
 pub mod Grids
 pub mod Replays
 pub mod ArchiveSizes

@@ -1,21 +1,18 @@
--- The numbers of a section's entries and of a file's sections, as a loop meets them.
-use native.Mathlib.Omega.{arith}
-use native.Mathlib.Nat.{add-sub-cancel-left}
-use Prim.Native.Nat.{ℕ, suc, _+_, _*_, _-_, _/_, _<_, _≤_}
-use mathlib.Core.Path.{_≡_, refl, sym, ap, _∙_}
+-- A section's numbers are its first entry's, then the others'; a file's are its first section's, then the others'. So what is left after k has one number, or one section, less.
+use Prim.Native.Nat.{ℕ, suc, _+_, _*_, _-_, _/_, _<_}
+use mathlib.Core.Path.{_≡_, refl, ap}
 use mathlib.Core.Bool.{Bool}
 use mathlib.Core.List.{List, [], _∷_, _++_, map}
 use lib.Dec.{eqb}
-use lib.ListN.{length, take, drop, length-map, length-drop}
-use lib.Seq.{length-take-le}
+use lib.ListN.{length, take, drop, length-map}
 use Rattle.archive.specs.Entries.{firstEntries, entriesOf, firstRefusal}
 use Rattle.archive.specs.declared.entries.Checked.{Checked}
-use Rattle.archive.specs.Reading.{Pair, pairAt, pairsFrom, partAt, numberIn, numbersIn, numbersOf}
+use Rattle.archive.specs.Reading.{pairAt, pairsFrom, partAt, numberIn, numbersIn, numbersOf}
 use Rattle.archive.proofs.EntryLists.{entries-next, length-entries}
 use Rattle.archive.proofs.Findings.{last-one, refusal-past, refusal-within}
 use Rattle.archive.proofs.Pairs.{pairs-next, length-pairs}
 
-pub length-numbers : (final : Bool) (es : List (List ℕ)) → length (numbersIn final es) ≡ length es
+length-numbers : (final : Bool) (es : List (List ℕ)) → length (numbersIn final es) ≡ length es
 unfolding numbersIn
 length-numbers final [] = refl
 length-numbers final (e ∷ es) = ap suc (length-numbers final es)
@@ -24,37 +21,17 @@ pub numbers-next : (final : Bool) (n k : ℕ) (s : List ℕ) → k < n
     → numbersIn final (firstEntries (n - k) (drop (32 * k) s))
     ≡ numberIn (eqb (k + 1) n) final (take (32 * k + 32 - 32 * k) (drop (32 * k) s)) ∷ numbersIn final (firstEntries (n - (k + 1)) (drop (32 * (k + 1)) s))
 unfolding numbersIn
-numbers-next final n k s h =
-    ap (numbersIn final) (entries-next n k s h)
-    ∙ ap (λ (b : Bool). numberIn b final (take (32 * k + 32 - 32 * k) (drop (32 * k) s)) ∷ numbersIn final (firstEntries (n - (k + 1)) (drop (32 * (k + 1)) s)))
-    (ap (λ (m : ℕ). eqb m 0) (length-entries (n - (k + 1)) (drop (32 * (k + 1)) s)) ∙ last-one n k h)
+numbers-next final n k s h = rw (entries-next n k s h, length-entries, last-one n k h)
 
-pub no-numbers : (final : Bool) → numbersIn final [] ≡ []
-unfolding numbersIn
-no-numbers final = refl
-
-pub files-next : (a : List ℕ) (n i : ℕ) → i < n
+files-next : (a : List ℕ) (n i : ℕ) → i < n
     → numbersOf (map (partAt a) (pairsFrom a i (n - i)))
     ≡ numbersIn (eqb (i + 1) n) (entriesOf (partAt a (pairAt a i))) ++ numbersOf (map (partAt a) (pairsFrom a (i + 1) (n - (i + 1))))
 unfolding numbersOf
 files-next a n i h =
-    ap (λ (ps : List Pair). numbersOf (map (partAt a) ps)) (pairs-next a n i h)
-    ∙ ap (λ (b : Bool). numbersIn b (entriesOf (partAt a (pairAt a i))) ++ numbersOf (map (partAt a) (pairsFrom a (i + 1) (n - (i + 1)))))
-    (ap (λ (m : ℕ). eqb m 0) (length-map (pairsFrom a (i + 1) (n - (i + 1))) (partAt a) ∙ length-pairs a (i + 1) (n - (i + 1))) ∙ last-one n i h)
-
-pub no-files : (a : List ℕ) → numbersOf (map (partAt a) []) ≡ []
-unfolding numbersOf
-no-files a = refl
+    let last : eqb (length (map (partAt a) (pairsFrom a (i + 1) (n - (i + 1))))) 0 ≡ eqb (i + 1) n = rw (length-map, length-pairs, last-one n i h) in
+    rw (pairs-next a n i h) (cc)
 
 -- ---- one section's turn
-
-pub part-read : (a : List ℕ) (i o l : ℕ) → _≡_ {A = Pair} (o, l) (pairAt a i) → take (o + l - o) (drop o a) ≡ partAt a (pairAt a i)
-unfolding partAt
-part-read a i o l p = ap (λ (n : ℕ). take n (drop o a)) (add-sub-cancel-left o l) ∙ ap (partAt a) p
-
-pub length-part : (a : List ℕ) (o l : ℕ) → o + l ≤ length a → length (take (o + l - o) (drop o a)) ≡ l
-length-part a o l h =
-    ap (λ (n : ℕ). length (take n (drop o a))) (add-sub-cancel-left o l) ∙ length-take-le l (drop o a) (rw length-drop (omega arith))
 
 module _ (a : List ℕ) (n i first : ℕ) (h : i < n) (r : Checked) where
   abbrev here : List ℕ
@@ -64,15 +41,10 @@ module _ (a : List ℕ) (n i first : ℕ) (h : i < n) (r : Checked) where
   after = numbersOf (map (partAt a) (pairsFrom a (i + 1) (n - (i + 1))))
 
   pub section-refuses : r ≡ firstRefusal first here → (r .number ≡ 0 → ⊥) → r ≡ firstRefusal first (numbersOf (map (partAt a) (pairsFrom a i (n - i))))
-  section-refuses e k =
-      e
-      ∙ sym (refusal-within first here after (λ z. k (ap (λ (x : Checked). x .number) e ∙ z)))
-      ∙ ap (firstRefusal first) (sym (files-next a n i h))
+  section-refuses e k = cc (files-next a n i h, refusal-within first here after (λ z. k (cc)))
 
   pub section-passes : (l : ℕ) → length (partAt a (pairAt a i)) ≡ l → r ≡ firstRefusal first here → r .number ≡ 0 → firstRefusal (first + l / 32) after ≡ firstRefusal first (numbersOf (map (partAt a) (pairsFrom a i (n - i))))
   unfolding entriesOf
   section-passes l s e k =
-      let count : length here ≡ l / 32 = length-numbers (eqb (i + 1) n) (entriesOf (partAt a (pairAt a i))) ∙ length-entries (length (partAt a (pairAt a i)) / 32) (partAt a (pairAt a i)) ∙ ap (λ (x : ℕ). x / 32) s in
-      ap (λ (x : ℕ). firstRefusal (first + x) after) (sym count)
-      ∙ sym (refusal-past first here after (ap (λ (x : Checked). x .number) (sym e) ∙ k))
-      ∙ ap (firstRefusal first) (sym (files-next a n i h))
+      let count : length here ≡ l / 32 = rw (length-numbers, length-entries, s) in
+      cc (files-next a n i h, refusal-past first here after (cc))

@@ -1,4 +1,4 @@
--- A number through its bytes and back, at any width.
+-- A remainder by 256 is the low byte and the quotient holds the others, so a number comes back from its bytes at any width that it fits.
 use native.Mathlib.Omega.{arith}
 use Prim.Native.Nat.{ℕ, zero, suc, _+_, _*_, _/_, _%_, _<_, _≤_}
 use mathlib.Core.Path.{_≡_, refl, sym, ap, _∙_}
@@ -9,7 +9,7 @@ use Rattle.archive.specs.Words.{valueOf, bytesOf, halfAt, wordAt}
 use Rattle.archive.specs.RoundTrips.{Bytes}
 
 -- n has room in so many bytes
-abbrev pub Within : ℕ → ℕ → Type 0
+abbrev Within : ℕ → ℕ → Type 0
 Within zero n = n ≡ 0
 Within (suc width) n = Within width (n / 256)
 

@@ -1,6 +1,6 @@
--- Sections through their archive and back: what is packed is read as it was, and an archive that is read is what is packed of its parts.
+-- The archive says of its sections how many they are and where each lies, so they are read as they were packed; a right archive leaves the packer no choice.
 use native.Mathlib.Omega.{arith}
-use Prim.Native.Nat.{ℕ, zero, suc, _+_, _*_, _≤_}
+use Prim.Native.Nat.{ℕ, _+_, _*_, _≤_}
 use mathlib.Core.Path.{_≡_, refl, sym, ap, _∙_}
 use mathlib.Core.Bool.{true, false}
 use mathlib.Core.List.{List, _++_, append-assoc}
@@ -12,6 +12,7 @@ use Rattle.archive.specs.RoundTrips.{Bytes}
 use Rattle.archive.proofs.Partitions.{Good}
 use Rattle.archive.proofs.Headers.{length-header, count-put, opening-put, zeros-put, Headed, headed-right, header-checked, header-again}
 use Rattle.archive.proofs.Directories.{pairsFor, length-directory, pairs-put, directory-again}
+use Rattle.archive.proofs.Pairs.{length-pairs}
 use Rattle.archive.proofs.Stretches.{right-for, parts-for, Parted, parted}
 
 -- ---- packed, then read
@@ -73,11 +74,6 @@ module _ (ss : List (List ℕ)) (good : Good ss) (few : length ss ≤ 1200) (sho
   list-packed = rw count-packed (drop-at (front ss) (together ss) (bodyAt (length ss)) (length-front ss))
 
 -- ---- read, then packed
-
-length-pairs : (a : List ℕ) (i n : ℕ) → length (pairsFrom a i n) ≡ n
-unfolding pairsFrom
-length-pairs a i zero = refl
-length-pairs a i (suc n) = ap suc (length-pairs a (i + 1) n)
 
 module _ (a : List ℕ) (right : rightDirectory a ≡ true) where
   pub count-parts : length (partsOf a) ≡ sectionCount a

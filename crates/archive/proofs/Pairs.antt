@@ -1,14 +1,13 @@
--- The directory's pairs, as a loop meets them, and what a right directory says of each.
+-- A right directory's pairs follow each other up to the file's end, so each lies within the file and holds whole entries.
 use borrow.Author.Tests.{eqb-true, ltb-true}
 use native.Mathlib.Omega.{arith}
-use Prim.Native.Nat.{ℕ, zero, suc, _+_, _*_, _-_, _%_, _<_, _≤_}
+use Prim.Native.Nat.{ℕ, zero, suc, _+_, _-_, _%_, _<_, _≤_}
 use mathlib.Core.Path.{_≡_, refl, ap}
-use mathlib.Core.Bool.{true, false, _&&_}
+use mathlib.Core.Bool.{true, _&&_}
 use mathlib.Core.List.{List, [], _∷_}
 use lib.Dec.{eqb, ltb}
 use lib.ListN.{length}
 use Rattle.tariff.proofs.Bools.{and-left, and-right}
-use Rattle.archive.specs.Words.{wordAt}
 use Rattle.archive.specs.Layout.{bodyAt}
 use Rattle.archive.specs.Reading.{Pair, pairAt, pairsFrom, pairsOf, rightLength, rightPairs, rightDirectory, sectionCount}
 
@@ -25,18 +24,13 @@ unfolding pairsFrom
 length-pairs a i zero = refl
 length-pairs a i (suc n) = ap suc (length-pairs a (i + 1) n)
 
-pub pair-words : (a : List ℕ) (i o l : ℕ) → o ≡ wordAt a (8 + 8 * i) → l ≡ wordAt a (12 + 8 * i) → _≡_ {A = Pair} (o, l) (pairAt a i)
-unfolding pairAt
-pair-words a i o l e f = rw (e, f)
-
 -- ---- a right pair
 
 pub record Held (size : ℕ) (p : Pair) : Type 0 where
   pub within : p .0 + p .1 ≤ size
-  pub positive : 0 < p .1
   pub multiple : p .1 % 32 ≡ 0
 
-pub length-right : (n : ℕ) → rightLength n ≡ true → (0 < n) × (n % 32 ≡ 0)
+length-right : (n : ℕ) → rightLength n ≡ true → (0 < n) × (n % 32 ≡ 0)
 unfolding rightLength
 length-right n h = (ltb-true 0 n (and-left (ltb 0 n) (eqb (n % 32) 0) h), eqb-true (n % 32) 0 (and-right (ltb 0 n) (eqb (n % 32) 0) h))
 
@@ -55,29 +49,17 @@ module _ (size end : ℕ) (p : Pair) (ps : List Pair) (h : rightPairs size end (
   unfolding rightPairs
   right-rest = and-right (eqb (p .0) end && rightLength (p .1)) (rightPairs size (end + p .1) ps) h
 
-pub pairs-wrong : (size end : ℕ) (p : Pair) (ps : List Pair) → (eqb (p .0) end && (ltb 0 (p .1) && eqb (p .1 % 32) 0)) ≡ false → rightPairs size end (p ∷ ps) ≡ false
-unfolding rightPairs rightLength
-pairs-wrong size end p ps h = rw h
-
-pub pairs-right : (size end : ℕ) (p : Pair) (ps : List Pair) → (eqb (p .0) end && (ltb 0 (p .1) && eqb (p .1 % 32) 0)) ≡ true → rightPairs size end (p ∷ ps) ≡ rightPairs size (end + p .1) ps
-unfolding rightPairs rightLength
-pairs-right size end p ps h = rw h
-
-pub pairs-end : (size end : ℕ) → rightPairs size end [] ≡ eqb end size
-unfolding rightPairs
-pairs-end size end = refl
-
-pub right-end : (size end : ℕ) (ps : List Pair) → rightPairs size end ps ≡ true → end ≤ size
+right-end : (size end : ℕ) (ps : List Pair) → rightPairs size end ps ≡ true → end ≤ size
 unfolding rightPairs
 right-end size end [] h = let e = eqb-true end size h in omega arith
 right-end size end (p ∷ ps) h = let r = right-end size (end + p .1) ps (right-rest size end p ps h) in omega arith
 
-pub first-held : (size end : ℕ) (p : Pair) (ps : List Pair) → rightPairs size end (p ∷ ps) ≡ true → Held size p
+first-held : (size end : ℕ) (p : Pair) (ps : List Pair) → rightPairs size end (p ∷ ps) ≡ true → Held size p
 first-held size end p ps h =
     let e = right-start size end p ps h in
     let l = right-length size end p ps h in
     let r = right-end size (end + p .1) ps (right-rest size end p ps h) in
-    record { within = omega arith; positive = l .0; multiple = l .1 }
+    record { within = omega arith; multiple = l .1 }
 
 held-from : (a : List ℕ) (end j n i : ℕ) → rightPairs (length a) end (pairsFrom a j n) ≡ true → i < n → Held (length a) (pairAt a (j + i))
 unfolding pairsFrom

@@ -1,4 +1,4 @@
--- Sections against the entries that they hold: what the writer cuts passes the reader's check, and what passes is so cut.
+-- The writer cuts after each closing and the reader asks for closings just there: so what is cut passes, and what passes is cut so again.
 use borrow.Author.Tests.{eqb-true, ne-eqb}
 use native.Mathlib.Omega.{arith}
 use Prim.Native.Nat.{ℕ, suc, _/_, _%_, _<_}
@@ -10,11 +10,11 @@ use lib.ListN.{length, length-append}
 use Rattle.ledger.specs.Entries.{formNumber}
 use Rattle.archive.specs.Entries.{firstEntries, entriesOf, closesMonth}
 use Rattle.archive.specs.Layout.{joined, sectionsOf, together}
-use Rattle.archive.specs.Reading.{misplaced, numbersIn, numbersOf}
+use Rattle.archive.specs.Reading.{misplaced, numberIn, numbersIn, numbersOf}
 use Rattle.archive.proofs.EntryLists.{length-entries, together-all, entries-of-append}
 use Rattle.archive.proofs.Splits.{no-sections}
 use Rattle.archive.proofs.Refusals.{Zeros, zeros-append, zeros-left, zeros-right}
-use Rattle.archive.proofs.EntryNumbers.{form-length, one-entry, number-zero, number-parts, closing-ends, other-ends, other-within, within-other, ends-final}
+use Rattle.archive.proofs.EntryNumbers.{form-length, one-entry, number-parts, within-other, ends-final}
 
 -- ---- sections of whole entries, and not of none
 
@@ -41,33 +41,32 @@ entry-sized : (e : List ℕ) → length e ≡ 32 → Sized e
 entry-sized e h = record { some = omega arith; whole = rw h }
 
 closed : (e : List ℕ) (ss : List (List ℕ)) → closesMonth e ≡ true → formNumber e ≡ 0 → Sound ss → Sound (e ∷ ss)
-unfolding numbersOf numbersIn
+unfolding numbersOf numbersIn numberIn misplaced
 closed e ss k f h =
     let size : length e ≡ 32 = form-length e f in
     record {
       good = (entry-sized e size, h .good);
-      zeros = rw (one-entry e size) (number-zero true (eqb (length ss) 0) e f (closing-ends (eqb (length ss) 0) e k), h .zeros);
+      zeros = rw (one-entry e size) (rw (f, k), h .zeros);
     }
 
 joined-sized : (e s : List ℕ) → length e ≡ 32 → Sized s → Sized (e ++ s)
 joined-sized e s h k = record { some = rw length-append (omega arith); whole = rw length-append (omega arith) }
 
 joined-sound : (e : List ℕ) (ss : List (List ℕ)) → closesMonth e ≡ false → formNumber e ≡ 0 → Sound ss → Sound (joined e ss)
-unfolding joined numbersOf numbersIn
+unfolding joined numbersOf numbersIn numberIn misplaced
 joined-sound e [] k f h =
     let size : length e ≡ 32 = form-length e f in
     record {
       good = (entry-sized e size, tt);
-      zeros = rw (one-entry e size) (number-zero true true e f (other-ends e k), tt);
+      zeros = rw (one-entry e size) (rw (f, k), tt);
     }
 joined-sound e (s ∷ ss) k f h =
     let size : length e ≡ 32 = form-length e f in
-    let final : Bool = eqb (length ss) 0 in
     let split : entriesOf (e ++ s) ≡ e ∷ entriesOf s = entries-of-append e s (rw size) ∙ ap (λ (l : List (List ℕ)). l ++ entriesOf s) (one-entry e size) in
     let more : eqb (length (entriesOf s)) 0 ≡ false = ne-eqb (length (entriesOf s)) 0 (λ z. omega (arith, count-entries s, h .good .0)) in
     record {
       good = (joined-sized e s size (h .good .0), h .good .1);
-      zeros = rw (split, more) (number-zero false final e f (other-within final e k), h .zeros);
+      zeros = rw (split, more) (rw (f, k), h .zeros);
     }
 
 cut-case : (e : List ℕ) (ss : List (List ℕ)) (b : Bool) → closesMonth e ≡ b → formNumber e ≡ 0 → Sound ss → Sound (cond b (e ∷ ss) (joined e ss))

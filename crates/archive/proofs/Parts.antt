@@ -1,4 +1,4 @@
--- Bytes stored one after the other, a part that is lent to a filler and comes back, and a run of such fills.
+-- A copy that goes on where the last one ended is one longer copy, and a part that comes back filled changes nothing beside it.
 use native.Mathlib.Omega.{arith}
 use native.Mathlib.Nat.{add-assoc, add-sub-cancel-left}
 use Prim.Native.Nat.{ℕ, suc, _+_, _-_, _≤_}
@@ -20,7 +20,7 @@ past : (d : List ℕ) (off : ℕ) → drop (length d - off) (drop off d) ≡ []
 past d off = ap (λ (k : ℕ). drop k (drop off d)) (sym (length-drop off d)) ∙ drop-length (drop off d)
 
 -- a part from an offset to the end, filled from its start and back in its place
-pub lent-back : (d s ys : List ℕ) (off n : ℕ) → ys ≡ take n s ++ drop n (take (length d - off) (drop off d))
+lent-back : (d s ys : List ℕ) (off n : ℕ) → ys ≡ take n s ++ drop n (take (length d - off) (drop off d))
     → take off d ++ (ys ++ drop (length d - off) (drop off d)) ≡ take off d ++ (take n s ++ drop (off + n) d)
 lent-back d s ys off n e =
     ap (λ (l : List ℕ). take off d ++ l)
@@ -43,8 +43,7 @@ paste-more d s x at j n hd hs e =
 -- ---- one section more: its bytes are copied to the part of the output from its offset
 
 pub section-bytes : (s : List ℕ) (at size : ℕ) → at + size ≤ length s → length (take (at + size - at) (drop at s)) ≡ size
-section-bytes s at size h =
-    ap (λ (n : ℕ). length (take n (drop at s))) (add-sub-cancel-left at size) ∙ length-take-le size (drop at s) (rw length-drop (omega arith))
+section-bytes s at size h = rw add-sub-cancel-left (length-take-le size (drop at s) (rw length-drop (omega arith)))
 
 pub section-stored : (d s x ys : List ℕ) (body at size : ℕ) → x ≡ paste d body s at → body ≤ length d → at + size ≤ length s
     → ys ≡ take (length (take (at + size - at) (drop at s))) (take (at + size - at) (drop at s)) ++ drop (length (take (at + size - at) (drop at s))) (take (length x - (body + at)) (drop (body + at) x))

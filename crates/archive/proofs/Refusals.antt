@@ -1,4 +1,4 @@
--- What a check of many numbers tells: none is refused where all are 0, and only there.
+-- A list of numbers has no refusal where all of them are 0, and only there: the first that is not 0 would be it.
 use borrow.Author.Tests.{eqb-true, eqb-false}
 use Prim.Native.Nat.{ℕ, _+_}
 use mathlib.Core.Path.{_≡_, refl}

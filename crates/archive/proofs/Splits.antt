@@ -1,4 +1,4 @@
--- Where entries fall into sections.
+-- The first section runs to the first closing, or to the end; what follows is cut as a list of its own.
 use native.Mathlib.Omega.{arith}
 use Prim.Native.Nat.{ℕ, zero, suc, _+_, _*_, _-_, _/_, _%_, _<_, _≤_}
 use mathlib.Core.Path.{_≡_, refl, ap, _∙_}
@@ -15,28 +15,16 @@ unfoldable pub lead : List (List ℕ) → ℕ
 lead [] = 0
 lead (e ∷ es) = cond (closesMonth e) 1 (1 + lead es)
 
-pub lead-closes : (e : List ℕ) (es : List (List ℕ)) → closesMonth e ≡ true → lead (e ∷ es) ≡ 1
-unfolding lead
-lead-closes e es h = rw h
-
-pub lead-goes-on : (e : List ℕ) (es : List (List ℕ)) → closesMonth e ≡ false → lead (e ∷ es) ≡ 1 + lead es
-unfolding lead
-lead-goes-on e es h = rw h
-
-pub lead-none : lead [] ≡ 0
-unfolding lead
-lead-none = refl
-
 lead-case : (b : Bool) (n m : ℕ) → n ≤ m → cond b 1 (1 + n) ≤ suc m
 lead-case true n m h = omega arith
 lead-case false n m h = omega arith
 
-pub lead-le : (es : List (List ℕ)) → lead es ≤ length es
+lead-le : (es : List (List ℕ)) → lead es ≤ length es
 unfolding lead
 lead-le [] = omega arith
 lead-le (e ∷ es) = lead-case (closesMonth e) (lead es) (length es) (lead-le es)
 
-pub lead-positive : (e : List ℕ) (es : List (List ℕ)) → 0 < lead (e ∷ es)
+lead-positive : (e : List ℕ) (es : List (List ℕ)) → 0 < lead (e ∷ es)
 unfolding lead
 lead-positive e es = go (closesMonth e)
   where
@@ -60,17 +48,17 @@ unfolding together joined
 before e f fs true h = rw (append-nil e)
 before e f fs false h = let j : 1 + lead (f ∷ fs) ≡ suc (lead (f ∷ fs)) = omega arith in rw (j, h)
 
-pub first-then-rest : (e : List ℕ) (es : List (List ℕ)) → Parted (e ∷ es)
+first-then-rest : (e : List ℕ) (es : List (List ℕ)) → Parted (e ∷ es)
 unfolding sectionsOf joined together lead
 first-then-rest e [] = alone e (closesMonth e)
 first-then-rest e (f ∷ fs) = before e f fs (closesMonth e) (first-then-rest f fs)
 
 -- the same of a list's bytes: `size` bytes, and then the rest
-pub record First (s : List ℕ) (size : ℕ) : Type 0 where
-  pub split : sectionsOf (entriesOf s) ≡ take size s ∷ sectionsOf (entriesOf (drop size s))
-  pub positive : 0 < size
-  pub multiple : size % 32 ≡ 0
-  pub within : size ≤ length s
+record First (s : List ℕ) (size : ℕ) : Type 0 where
+  split : sectionsOf (entriesOf s) ≡ take size s ∷ sectionsOf (entriesOf (drop size s))
+  positive : 0 < size
+  multiple : size % 32 ≡ 0
+  within : size ≤ length s
 
 module _ (n : ℕ) (s : List ℕ) (h : length s ≡ 32 * suc n) where
   abbrev es : List (List ℕ)
@@ -118,7 +106,7 @@ first-size s h = go (length s / 32) refl
     go zero e = refl
     go (suc n) e = size-of n s (omega arith)
 
-pub first : (s : List ℕ) → length s % 32 ≡ 0 → 0 < length s → First s (length (getD (sectionsOf (entriesOf s)) 0 []))
+first : (s : List ℕ) → length s % 32 ≡ 0 → 0 < length s → First s (length (getD (sectionsOf (entriesOf s)) 0 []))
 unfolding entriesOf
 first s h k = go (length s / 32) refl
   where
@@ -135,13 +123,16 @@ no-sections (x ∷ s) h = absurd (omega arith)
 
 module _ (n k : ℕ) (s : List ℕ) (h : k < n) where
   pub lead-here : closesMonth (take (32 * k + 32 - 32 * k) (drop (32 * k) s)) ≡ true → lead (firstEntries (n - k) (drop (32 * k) s)) ≡ 1
-  lead-here t = ap lead (entries-next n k s h) ∙ lead-closes (take (32 * k + 32 - 32 * k) (drop (32 * k) s)) (firstEntries (n - (k + 1)) (drop (32 * (k + 1)) s)) t
+  unfolding lead
+  lead-here t = rw (entries-next n k s h, t)
 
   pub lead-later : closesMonth (take (32 * k + 32 - 32 * k) (drop (32 * k) s)) ≡ false → lead (firstEntries (n - k) (drop (32 * k) s)) ≡ 1 + lead (firstEntries (n - (k + 1)) (drop (32 * (k + 1)) s))
-  lead-later t = ap lead (entries-next n k s h) ∙ lead-goes-on (take (32 * k + 32 - 32 * k) (drop (32 * k) s)) (firstEntries (n - (k + 1)) (drop (32 * (k + 1)) s)) t
+  unfolding lead
+  lead-later t = rw (entries-next n k s h, t)
 
 pub lead-end : (n k : ℕ) (s : List ℕ) → n ≤ k → lead (firstEntries (n - k) s) ≡ 0
-lead-end n k s h = ap lead (entries-none n k s h) ∙ lead-none
+unfolding lead
+lead-end n k s h = rw (entries-none n k s h)
 
 -- ---- the sections, as a loop meets them
 

@@ -1,4 +1,4 @@
--- The pairs as parts of the file, one after the other up to its end.
+-- Each right pair begins where the one before it ends and the last ends the file: so the parts that they name leave no byte out, and stand in file order.
 use borrow.Author.Tests.{eqb-true, eq-eqb, lt-ltb}
 use native.Mathlib.Omega.{arith}
 use Prim.Native.Nat.{ℕ, zero, suc, _+_, _%_, _<_, _≤_}

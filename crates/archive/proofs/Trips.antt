@@ -1,4 +1,4 @@
--- Both round trips: a list that is written reads back, and an archive that is read is written again.
+-- The writer packs sections that the reader finds right, and reading takes them out as they were; an accepted archive has right sections, and packing them leaves no choice of bytes.
 use borrow.Author.Tests.{lt-ltb}
 use native.Mathlib.Nat.{zero-add}
 use Prim.Native.Nat.{ℕ, _<_, _≤_}
@@ -6,11 +6,11 @@ use mathlib.Core.Path.{_≡_, sym, ap, _∙_}
 use mathlib.Core.List.{List, []}
 use lib.ListN.{length, getD}
 use Rattle.archive.specs.Entries.{entriesOf, finding}
-use Rattle.archive.specs.Layout.{sectionsOf, together, packed, archiveOf}
+use Rattle.archive.specs.Layout.{sectionsOf, packed, archiveOf}
 use Rattle.archive.specs.Reading.{sectionCount, pairAt, pairsOf, partAt, partsOf, checked, placeOf, sectionAt, listOf}
 use Rattle.archive.specs.RoundTrips.{Bytes, Read, ReadsBack, Remade, WritesBack}
-use Rattle.archive.proofs.EntryLists.{together-all}
-use Rattle.archive.proofs.Partitions.{Sound, cut-sound, together-sections, sections-again, forms-right, together-whole}
+use Rattle.archive.proofs.ArchiveSizes.{sections-all}
+use Rattle.archive.proofs.Partitions.{Sound, cut-sound, sections-again, forms-right, together-whole}
 use Rattle.archive.proofs.Headers.{Headed, header-checked}
 use Rattle.archive.proofs.Stretches.{part-at}
 use Rattle.archive.proofs.Acceptance.{Writable, written-tells, writable-written, Readable, checked-tells, readable-checked}
@@ -29,9 +29,6 @@ module _ (list : List ℕ) (w : Writable list) where
 
   sound : Sound ss
   sound = cut-sound (entriesOf list) (w .forms)
-
-  all-back : together ss ≡ list
-  all-back = together-sections (entriesOf list) ∙ together-all list (w .whole)
 
   short : length (packed ss) ≤ 4294967295
   unfolding archiveOf
@@ -53,10 +50,10 @@ module _ (list : List ℕ) (w : Writable list) where
   read =
       record {
         accepted = readable-checked (packed ss) readable;
-        whole = list-packed ss (sound .good) (w .few) short ∙ all-back;
+        whole = list-packed ss (sound .good) (w .few) short ∙ sections-all list (w .whole);
         count = count;
         sections = λ i h. section-part (packed ss) i (readable-checked (packed ss) readable) (rw count h) ∙ ap (λ (l : List (List ℕ)). getD l i []) (parts-packed ss (sound .good) (w .few) short);
-        joined = all-back;
+        joined = sections-all list (w .whole);
       }
 
 pub reads-back : ReadsBack

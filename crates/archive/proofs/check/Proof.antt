@@ -1,36 +1,40 @@
+-- The checks are made in the order of their numbers, so the first that fails gives the answer.
 use borrow.Author.Tests.{not-true, not-false}
 use borrow.Author.Needs.{needs}
-use mathlib.Core.Path.{sym, _∙_}
-use Rattle.archive.specs.Reading.{checked}
-use Rattle.archive.specs.Entries.{finding}
+use Prim.Native.Nat.{ℕ}
+use mathlib.Core.Bool.{Bool, true, false, not}
+use mathlib.Core.List.{List}
+use mathlib.Core.Path.{_≡_}
+use Rattle.archive.specs.Reading.{wrongHeader, rightDirectory, numbersOf, partsOf, checked}
+use Rattle.archive.specs.Entries.{finding, firstRefusal}
+use Rattle.archive.specs.declared.entries.Checked.{Checked}
 use Rattle.archive.proofs.check.Statement.{statement}
 use Rattle.archive.proofs.check.Tie as tie
 
-returns : tie.Need-returns
-unfolding checked finding
-returns c = rw (sym (c .before .wrong-header .ensures) ∙ c .if1 .taken)
+directory-right : (a : List ℕ) (right : Bool) → right ≡ rightDirectory a → not right ≡ false → rightDirectory a ≡ true
+directory-right a right r t = cc (not-false right t)
 
-right-directory-requires : tie.Need-right-directory-requires
-right-directory-requires c κs = sym (c .before .wrong-header .ensures) ∙ c .if1 .left
+module _ (a : List ℕ) (wrong : Bool) (w : wrong ≡ wrongHeader a) where
+  header-wrong : wrong ≡ true → record { number = 8; index = 0 } ≡ checked a
+  unfolding checked finding
+  header-wrong t = cc
 
-returns-2 : tie.Need-returns-2
-unfolding checked finding
-returns-2 c = rw (sym (c .before .before .before .wrong-header .ensures) ∙ c .before .before .if1 .left, sym (c .before .right-directory .ensures) ∙ not-true (c .before .right-directory .result) (c .if2 .taken))
+  module _ (f : wrong ≡ false) (right : Bool) (r : right ≡ rightDirectory a) where
+    directory-wrong : not right ≡ true → record { number = 9; index = 0 } ≡ checked a
+    unfolding checked finding
+    directory-wrong t = cc (not-true right t)
 
-check-sections-requires : tie.Need-check-sections-requires
-check-sections-requires c κs = (sym (c .before .before .before .wrong-header .ensures) ∙ c .before .before .if1 .left, sym (c .before .right-directory .ensures) ∙ not-false (c .before .right-directory .result) (c .if2 .left))
-
-returns-3 : tie.Need-returns-3
-unfolding checked
-returns-3 c = rw (sym (c .before .before .before .before .wrong-header .ensures) ∙ c .before .before .before .if1 .left, sym (c .before .before .right-directory .ensures) ∙ not-false (c .before .before .right-directory .result) (c .before .if2 .left)) (c .check-sections .ensures)
+    entries-checked : not right ≡ false → (c : Checked) → c ≡ firstRefusal 0 (numbersOf (partsOf a)) → c ≡ checked a
+    unfolding checked
+    entries-checked t c e = cc (not-false right t)
 
 pub check-spec : {M : Type 1} → statement M
 check-spec =
     tie.close
     (tie.spec
     (λ c κs. search needs)
-    returns
-    right-directory-requires
-    returns-2
-    check-sections-requires
-    returns-3)
+    (λ c. search header-wrong)
+    (λ c κs. cc)
+    (λ c. search directory-wrong)
+    (λ c κs. (cc, search directory-right))
+    (λ c. search entries-checked))

@@ -1,3 +1,4 @@
+-- The entries that an archive holds are a list like any other, so what the ledger shows of every list holds of them.
 use mathlib.Core.Path.{ap}
 use Rattle.ledger.specs.declared.panels.Panel.{Panel}
 use Rattle.history.proofs.Histories.{banks-add-up, panel-adds-up, debts-add-up, days-add-up, striking-changes-nothing}
@@ -25,8 +26,5 @@ struck : StrikingChangesNothing
 unfolding replayed
 struck a = striking-changes-nothing (heldBy a)
 
-returns : tie.Need-returns
-returns c = (banks, (figure, (debts, (days, struck))))
-
 pub every-archive-spec : {M : Type 1} → statement M
-every-archive-spec = tie.close (tie.spec returns)
+every-archive-spec = tie.close (tie.spec (λ c. (banks, (figure, (debts, (days, struck))))))

@@ -1,90 +1,67 @@
-use borrow.Author.Tests.{lt-ltb, le-ltb, eq-eqb, ne-eqb}
+-- A checked archive's directory is right, so the pair read at i is its pair i and lies within the file; all else is nowhere.
+use borrow.Author.Tests.{lt-ltb, le-ltb, ne-eqb}
 use borrow.Author.Needs.{needs}
 use native.Mathlib.Omega.{arith}
-use Prim.Native.Nat.{_<_}
-use mathlib.Core.Path.{_≡_, sym, ap, _∙_}
+use Prim.Native.Nat.{ℕ, _+_, _*_, _<_, _≤_}
+use mathlib.Core.List.{List}
+use mathlib.Core.Path.{_≡_}
 use lib.ListN.{length}
-use Rattle.archive.specs.Reading.{Pair, sectionCount, checked, nowhere, placeOf}
-use Rattle.archive.specs.declared.reading.Place.{Place}
+use Rattle.archive.specs.Words.{wordAt}
+use Rattle.archive.specs.Reading.{sectionCount, checked, pairAt, nowhere, placeOf}
 use Rattle.archive.specs.declared.entries.Checked.{Checked}
-use Rattle.archive.proofs.Pairs.{pair-held, pair-words}
-use Rattle.archive.proofs.Headers.{Measured, measured}
-use Rattle.archive.proofs.Acceptance.{checked-tells}
+use Rattle.archive.specs.declared.reading.Place.{Place}
+use Rattle.archive.proofs.Pairs.{pair-held}
+use Rattle.archive.proofs.Headers.{Measured}
+use Rattle.archive.proofs.Acceptance.{checked-tells, accepted-sizes}
 use Rattle.archive.proofs.place.Statement.{statement}
 use Rattle.archive.proofs.place.Tie as tie
 
-abbrev place-at : Pair → Place
-place-at p = record { number = 0; index = 0; start = p .0; length = p .1 }
+nowhere-within : (a : List ℕ) (number index : ℕ) (r : Place) → r ≡ nowhere number index → r .start + r .length ≤ length a
+unfolding nowhere
+nowhere-within a number index r e = rw e (omega arith)
 
-zero : (c : tie.Else1) → checked (c .before .before .before .before .args .archive .now) .number ≡ 0
-zero c = ap (λ (x : Checked). x .number) (sym (c .before .before .check .ensures)) ∙ c .if1 .left
+module _ (a : List ℕ) (i : ℕ) (c : Checked) (p : c ≡ checked a) where
+  refused : (c .number ≡ 0 → ⊥) → (r : Place) → r ≡ nowhere (c .number) (c .index) → r ≡ placeOf a i
+  unfolding placeOf
+  refused d r e = cc (ne-eqb (c .number) 0 d)
 
-sizes : (c : tie.Else1) → Measured (c .before .before .before .before .args .archive .now)
-sizes c = measured (c .before .before .before .before .args .archive .now) (checked-tells (c .before .before .before .before .args .archive .now) (zero c) .headed)
+  module _ (z : c .number ≡ 0) (n : ℕ) (q : n ≡ sectionCount a) where
+    none-such : n ≤ i → (r : Place) → r ≡ nowhere 13 0 → r ≡ placeOf a i
+    unfolding placeOf
+    none-such h r e = cc (le-ltb i n h)
 
-returns : tie.Need-returns
-unfolding placeOf nowhere
-returns c =
-    let a = c .before .before .before .before .before .args .archive .now in
-    let check = c .before .before .before .check .ensures in
-    let some = ne-eqb (checked a .number) 0 (λ z. c .before .if1 .taken (ap (λ (x : Checked). x .number) check ∙ z)) in
-    let e = c .nowhere .ensures in
-    (rw some (e ∙ ap (λ (x : Checked). nowhere (x .number) (x .index)) check), rw e (omega arith))
+    module _ (h : i < n) (o l : ℕ) (e : o ≡ wordAt a (8 + 8 * i)) (f : l ≡ wordAt a (12 + 8 * i)) where
+      found : record { number = 0; index = 0; start = o; length = l } ≡ placeOf a i
+      unfolding placeOf pairAt
+      found = cc (lt-ltb i n h)
 
-section-count-requires : tie.Need-section-count-requires
-section-count-requires c κs = let m = sizes c in omega arith
+      within : o + l ≤ length a
+      unfolding pairAt
+      within = rw (e, f) (pair-held a i (checked-tells a (cc) .directed) (omega arith) .within)
 
-returns-2 : tie.Need-returns-2
-unfolding placeOf nowhere
-returns-2 c =
-    let a = c .before .before .before .before .before .before .before .args .archive .now in
-    let past = le-ltb (c .before .before .before .before .before .before .before .args .i) (sectionCount a) (omega (arith, c .before .before .section-count .ensures)) in
-    let e = c .nowhere2 .ensures in
-    (rw (eq-eqb (checked a .number) 0 (zero (c .before .before .before)), past) e, rw e (omega arith))
+module _ (c : tie.After-check) (z : c .check .result .number ≡ 0) where
+  start : tie.Start
+  start = search
 
-mul-word : tie.Need-mul-word
-mul-word c = let m = sizes (c .before .before) in omega arith
-
-add-word : tie.Need-add-word
-add-word c = let m = sizes (c .before .before) in omega arith
-
-word-requires : tie.Need-word-requires
-word-requires c κs = let m = sizes (c .before .before) in omega arith
-
-mul-word-2 : tie.Need-mul-word-2
-mul-word-2 c = let m = sizes (c .before .before .before) in omega arith
-
-add-word-2 : tie.Need-add-word-2
-add-word-2 c = let m = sizes (c .before .before .before) in omega arith
-
-word-requires-2 : tie.Need-word-requires-2
-word-requires-2 c κs = let m = sizes (c .before .before .before) in omega arith
-
-returns-3 : tie.Need-returns-3
-unfolding placeOf
-returns-3 c =
-    let s : tie.Start = search in
-    let a = s .args .archive .now in
-    let i = s .args .i in
-    let pair = pair-words a i (c .before .word .result) (c .word2 .result) (c .before .word .ensures .0) (c .word2 .ensures .0) in
-    let within : i < sectionCount a = omega (arith, c .before .before .before .section-count .ensures) in
-    let held = pair-held a i (checked-tells a (zero (c .before .before .before .before)) .directed) within in
-    (rw (eq-eqb (checked a .number) 0 (zero (c .before .before .before .before)), lt-ltb i (sectionCount a) within) (ap place-at pair), omega (arith, rw (sym pair) at (held .within)))
+  sizes : Measured (start .args .archive .now)
+  unfolding start
+  sizes = search accepted-sizes
 
 pub place-spec : {M : Type 1} → statement M
+unfolding start
 place-spec =
     tie.close
     (tie.spec
     (λ c κs. search needs)
     (λ c κs. search needs)
-    returns
-    section-count-requires
+    (λ c. (search refused, search nowhere-within))
+    (λ c κs. omega (arith, sizes (search) (search)))
     (λ c κs. search needs)
-    returns-2
-    mul-word
-    add-word
-    word-requires
-    mul-word-2
-    add-word-2
-    word-requires-2
-    returns-3)
+    (λ c. (search none-such, search nowhere-within))
+    (λ c. omega (arith, sizes (search) (search)))
+    (λ c. omega (arith, sizes (search) (search)))
+    (λ c κs. omega (arith, sizes (search) (search)))
+    (λ c. omega (arith, sizes (search) (search)))
+    (λ c. omega (arith, sizes (search) (search)))
+    (λ c κs. omega (arith, sizes (search) (search)))
+    (λ c. (search found, search within)))

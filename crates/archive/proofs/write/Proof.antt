@@ -1,30 +1,34 @@
-use borrow.Author.Tests.{eq-eqb, ne-eqb}
+-- The plan's number decides: with 0 the archive is put over the start of the output, else nothing is touched.
+use borrow.Author.Tests.{ne-eqb}
 use borrow.Author.Needs.{needs}
-use mathlib.Core.Path.{refl, sym, ap, _∙_}
-use lib.ListN.{length}
+use Prim.Native.Nat.{ℕ}
+use mathlib.Core.List.{List, _++_}
+use mathlib.Core.Path.{_≡_}
+use lib.ListN.{length, drop}
 use Rattle.archive.specs.declared.writing.Written.{Written}
+use Rattle.archive.specs.Layout.{archiveOf}
 use Rattle.archive.specs.Writing.{written, outputAfter}
 use Rattle.archive.proofs.write.Statement.{statement}
 use Rattle.archive.proofs.write.Tie as tie
 
-put-archive-requires : tie.Need-put-archive-requires
-put-archive-requires c κs = ap (λ (w : Written). w .number) (sym (c .before .before .before .plan .ensures)) ∙ c .before .if1 .taken
+module _ (list out : List ℕ) (w : Written) (p : w ≡ written list (length out)) where
+  accepted : w .number ≡ 0 → written list (length out) .number ≡ 0
+  accepted z = cc
 
-returns : tie.Need-returns
-unfolding outputAfter
-returns c =
-    let s : tie.Start = search in
-    let w = c .before .before .before .before .before .before .plan .ensures in
-    let zero = ap (λ (x : Written). x .number) (sym w) ∙ c .before .before .before .before .if1 .taken in
-    (w, rw (eq-eqb (written (s .args .list .now) (length (s .args .out .now)) .number) 0 zero) (c .before .before .put-archive .ensures))
+  put : w .number ≡ 0 → (after : List ℕ) → after ≡ archiveOf list ++ drop (length (archiveOf list)) out → after ≡ outputAfter list out
+  unfolding outputAfter
+  put z after e = cc
 
-returns-2 : tie.Need-returns-2
-unfolding outputAfter
-returns-2 c =
-    let s : tie.Start = search in
-    let w = c .before .before .plan .ensures in
-    let some = ne-eqb (written (s .args .list .now) (length (s .args .out .now)) .number) 0 (λ z. c .if1 .left (ap (λ (x : Written). x .number) w ∙ z)) in
-    (w, rw some refl)
+  untouched : (w .number ≡ 0 → ⊥) → out ≡ outputAfter list out
+  unfolding outputAfter
+  untouched d = cc (ne-eqb (w .number) 0 d)
 
 pub write-spec : {M : Type 1} → statement M
-write-spec = tie.close (tie.spec (λ c κs. search needs) put-archive-requires (λ c. search needs) returns returns-2)
+write-spec =
+    tie.close
+    (tie.spec
+    (λ c κs. search needs)
+    (λ c κs. search accepted)
+    (λ c. search needs)
+    (λ c. (search needs, search put))
+    (λ c. (search needs, search untouched)))

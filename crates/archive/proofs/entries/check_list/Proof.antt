@@ -1,66 +1,47 @@
+-- The first refusal of the entries from k on is that of the list, as all before them passed: entry k has it, or passes too.
+use borrow.Author.Tests.{ne-eqb}
 use borrow.Author.Needs.{needs}
 use native.Mathlib.Omega.{arith}
-use Prim.Native.Nat.{_+_, _*_, _-_, _/_, _≤_}
-use mathlib.Core.List.{map}
-use mathlib.Core.Path.{_≡_, refl, sym, ap, _∙_}
+use Prim.Native.Nat.{ℕ, _+_, _*_, _-_, _/_, _<_, _≤_}
+use mathlib.Core.List.{List, map}
+use mathlib.Core.Path.{_≡_, refl}
 use lib.ListN.{length, drop, take}
 use Rattle.ledger.specs.Entries.{formNumber}
 use Rattle.archive.specs.Writing.{listChecked}
 use Rattle.archive.specs.Entries.{entriesOf, firstEntries, finding, firstRefusal}
-use Rattle.archive.proofs.Findings.{refusal-none, refusal-here, refusal-later}
 use Rattle.archive.proofs.EntryLists.{entries-next, entries-none}
 use Rattle.archive.proofs.entries.check_list.Statement.{statement}
 use Rattle.archive.proofs.entries.check_list.Tie as tie
 
+-- from entry k on, of n
+record Rest (s : List ℕ) (n k : ℕ) : Type 0 where
+  within : k ≤ n
+  all : n ≡ length s / 32
+  same : firstRefusal k (map formNumber (firstEntries (n - k) (drop (32 * k) s))) ≡ listChecked s
+
 abbrev Inv-loop : tie.InvT-loop
-Inv-loop list n k₀ k = (k ≤ n) × (n ≡ length list / 32) × (firstRefusal k (map formNumber (firstEntries (n - k) (drop (32 * k) list))) ≡ listChecked list)
+Inv-loop list n k₀ k = Rest list n k
 
 abbrev μ-loop : tie.MeasureT-loop
 μ-loop list n k₀ k = n - k
 
-loop-holds : tie.Need-loop-holds Inv-loop μ-loop
+at-first : (s : List ℕ) → Rest s (length s / 32) 0
 unfolding entriesOf listChecked
-loop-holds c =
-    let s = c .before .args .list .now in
-    let z : length s / 32 - 0 ≡ length s / 32 = omega arith in
-    (search needs, refl, rw z)
+at-first s = let z : length s / 32 - 0 ≡ length s / 32 = omega arith in record { within = omega arith; all = refl; same = rw z }
 
-returns : tie.Need-returns Inv-loop μ-loop
-unfolding finding
-returns c =
-    let l = c .before .before .before .before in
-    let s = l .before .before .args .list .now in
-    let k = l .loop .k in
-    let e = take (32 * k + 32 - 32 * k) (drop (32 * k) s) in
-    let es = firstEntries (length s / 32 - (k + 1)) (drop (32 * (k + 1)) s) in
-    let number = c .before .entry-number .ensures in
-    ap (λ n. finding n k) number
-    ∙ sym (refusal-here k (formNumber e) (map formNumber es) (λ z. c .if1 .taken (number ∙ z)))
-    ∙ ap (λ xs. firstRefusal k (map formNumber xs)) (sym (entries-next (length s / 32) k s (omega arith)))
-    ∙ l .loop .inv .2
+module _ (s : List ℕ) (n k : ℕ) (r : Rest s n k) where
+  none-refused : n ≤ k → record { number = 0; index = 0 } ≡ listChecked s
+  unfolding finding firstRefusal
+  none-refused h = rw (entries-none n k (drop (32 * k) s) h) at (r .same)
 
-loop-again : tie.Need-loop-again Inv-loop μ-loop
-loop-again c =
-    let l = c .before .before .before .before in
-    let s = l .before .before .args .list .now in
-    let k = l .loop .k in
-    let e = take (32 * k + 32 - 32 * k) (drop (32 * k) s) in
-    let es = firstEntries (length s / 32 - (k + 1)) (drop (32 * (k + 1)) s) in (
-      omega arith,
-      refl,
-      sym (refusal-later k (formNumber e) (map formNumber es) (sym (c .before .entry-number .ensures) ∙ c .if1 .left))
-          ∙ ap (λ xs. firstRefusal k (map formNumber xs)) (sym (entries-next (length s / 32) k s (omega arith)))
-          ∙ l .loop .inv .2,
-    )
+  module _ (more : k < n) (m : ℕ) (e : m ≡ formNumber (take (32 * k + 32 - 32 * k) (drop (32 * k) s))) where
+    refused : (m ≡ 0 → ⊥) → record { number = m; index = k } ≡ listChecked s
+    unfolding finding firstRefusal
+    refused d = cc (rw (entries-next n k s more) at (r .same), ne-eqb m 0 d)
 
-returns-2 : tie.Need-returns-2 Inv-loop μ-loop
-unfolding finding
-returns-2 c =
-    let l = c .before in
-    let s = l .before .before .args .list .now in
-    sym (refusal-none (l .loop .k))
-    ∙ ap (λ xs. firstRefusal (l .loop .k) (map formNumber xs)) (sym (entries-none (length s / 32) (l .loop .k) (drop (32 * l .loop .k) s) (omega arith)))
-    ∙ l .loop .inv .2
+    passed : m ≡ 0 → (j : ℕ) → j ≡ k + 1 → Rest s n j
+    unfolding firstRefusal
+    passed z j i = rw i (record { within = omega arith; all = r .all; same = cc (rw (entries-next n k s more) at (r .same)) })
 
 pub check-list-spec : {M : Type 1} → statement M
 check-list-spec =
@@ -68,15 +49,15 @@ check-list-spec =
     (tie.spec
     Inv-loop
     μ-loop
-    loop-holds
+    (λ c. search at-first)
     (λ c. search needs)
     (λ c. search needs)
     (λ c. search needs)
     (λ c. search needs)
     (λ c. search needs)
     (λ c κs. search needs)
-    returns
+    (λ c. search refused)
     (λ c. search needs)
     (λ c. search needs)
-    loop-again
-    returns-2)
+    (λ c. search passed)
+    (λ c. search none-refused))

@@ -1,77 +1,54 @@
+-- The first refusal of the entries from k on is that of the section, as all before them passed: entry k has it, or passes too.
+use borrow.Author.Tests.{ne-eqb}
 use borrow.Author.Needs.{needs}
 use native.Mathlib.Omega.{arith}
-use Prim.Native.Nat.{_+_, _*_, _-_, _/_, _≤_}
-use mathlib.Core.Path.{_≡_, refl, sym, ap, _∙_}
+use Prim.Native.Nat.{ℕ, _+_, _*_, _-_, _/_, _<_, _≤_}
+use mathlib.Core.Bool.{Bool}
+use mathlib.Core.List.{List}
+use mathlib.Core.Path.{_≡_, refl}
 use lib.Dec.{eqb}
 use lib.ListN.{length, take, drop}
 use Rattle.archive.specs.Reading.{numberIn, numbersIn}
 use Rattle.archive.specs.Entries.{entriesOf, firstEntries, finding, firstRefusal}
-use Rattle.archive.proofs.Numbering.{numbers-next, no-numbers}
-use Rattle.archive.proofs.Findings.{refusal-none, refusal-here, refusal-later}
+use Rattle.archive.proofs.Numbering.{numbers-next}
 use Rattle.archive.proofs.EntryLists.{entries-none}
 use Rattle.archive.proofs.reading.check_section.Statement.{statement}
 use Rattle.archive.proofs.reading.check_section.Tie as tie
 
+-- from entry k on, of n
+record Rest (s : List ℕ) (first : ℕ) (last : Bool) (n k : ℕ) : Type 0 where
+  within : k ≤ n
+  all : n ≡ length s / 32
+  same : firstRefusal (first + k) (numbersIn last (firstEntries (n - k) (drop (32 * k) s))) ≡ firstRefusal first (numbersIn last (entriesOf s))
+
 abbrev Inv-loop : tie.InvT-loop
-Inv-loop section first last n k₀ k = (k ≤ n) × (n ≡ length section / 32) × (firstRefusal (first + k) (numbersIn last (firstEntries (n - k) (drop (32 * k) section))) ≡ firstRefusal first (numbersIn last (entriesOf section)))
+Inv-loop section first last n k₀ k = Rest section first last n k
 
 abbrev μ-loop : tie.MeasureT-loop
 μ-loop section first last n k₀ k = n - k
 
-loop-holds : tie.Need-loop-holds Inv-loop μ-loop
+at-first : (s : List ℕ) (first : ℕ) (last : Bool) → Rest s first last (length s / 32) 0
 unfolding entriesOf
-loop-holds c =
-    let s = c .before .args .section .now in
-    let first = c .before .args .first in
+at-first s first last =
     let z : length s / 32 - 0 ≡ length s / 32 = omega arith in
     let i : first + 0 ≡ first = omega arith in
-    (search needs, refl, rw (z, i))
+    record { within = omega arith; all = refl; same = rw (z, i) }
 
-returns : tie.Need-returns Inv-loop μ-loop
-unfolding finding
-returns c =
-    let l = c .before .before .before .before in
-    let s = l .before .before .args .section .now in
-    let k = l .loop .k in
-    let first = l .before .before .args .first in
-    let last = l .before .before .args .last in
-    let n = length s / 32 in
-    let e = take (32 * k + 32 - 32 * k) (drop (32 * k) s) in
-    let number = c .before .number-in .ensures in
-    ap (λ x. finding x (first + k)) number
-    ∙ sym (refusal-here (first + k) (numberIn (eqb (k + 1) n) last e) (numbersIn last (firstEntries (n - (k + 1)) (drop (32 * (k + 1)) s))) (λ z. c .if1 .taken (number ∙ z)))
-    ∙ ap (firstRefusal (first + k)) (sym (numbers-next last n k s (omega arith)))
-    ∙ l .loop .inv .2
+module _ (s : List ℕ) (first : ℕ) (last : Bool) (n k : ℕ) (r : Rest s first last n k) where
+  none-refused : n ≤ k → record { number = 0; index = 0 } ≡ firstRefusal first (numbersIn last (entriesOf s))
+  unfolding finding firstRefusal numbersIn
+  none-refused h = rw (entries-none n k (drop (32 * k) s) h) at (r .same)
 
-loop-again : tie.Need-loop-again Inv-loop μ-loop
-loop-again c =
-    let l = c .before .before .before .before in
-    let s = l .before .before .args .section .now in
-    let k = l .loop .k in
-    let first = l .before .before .args .first in
-    let last = l .before .before .args .last in
-    let n = length s / 32 in
-    let e = take (32 * k + 32 - 32 * k) (drop (32 * k) s) in
-    let more = numbersIn last (firstEntries (n - (k + 1)) (drop (32 * (k + 1)) s)) in
-    let j : first + (k + 1) ≡ first + k + 1 = omega arith in (
-      omega arith,
-      refl,
-      rw j
-          (sym (refusal-later (first + k) (numberIn (eqb (k + 1) n) last e) more (sym (c .before .number-in .ensures) ∙ c .if1 .left))
-          ∙ ap (firstRefusal (first + k)) (sym (numbers-next last n k s (omega arith)))
-          ∙ l .loop .inv .2),
-    )
+  module _ (more : k < n) (m : ℕ) (e : m ≡ numberIn (eqb (k + 1) n) last (take (32 * k + 32 - 32 * k) (drop (32 * k) s))) where
+    refused : (m ≡ 0 → ⊥) → record { number = m; index = first + k } ≡ firstRefusal first (numbersIn last (entriesOf s))
+    unfolding finding firstRefusal
+    refused d = cc (rw (numbers-next last n k s more) at (r .same), ne-eqb m 0 d)
 
-returns-2 : tie.Need-returns-2 Inv-loop μ-loop
-unfolding finding
-returns-2 c =
-    let l = c .before in
-    let s = l .before .before .args .section .now in
-    let i = l .before .before .args .first + l .loop .k in
-    let last = l .before .before .args .last in
-    sym (refusal-none i)
-    ∙ ap (firstRefusal i) (sym (ap (numbersIn last) (entries-none (length s / 32) (l .loop .k) (drop (32 * l .loop .k) s) (omega arith)) ∙ no-numbers last))
-    ∙ l .loop .inv .2
+    passed : m ≡ 0 → (j : ℕ) → j ≡ k + 1 → Rest s first last n j
+    unfolding firstRefusal
+    passed z j i =
+        let l : first + (k + 1) ≡ first + k + 1 = omega arith in
+        rw i (record { within = omega arith; all = r .all; same = cc (rw (numbers-next last n k s more) at (r .same)) })
 
 pub check-section-spec : {M : Type 1} → statement M
 check-section-spec =
@@ -79,7 +56,7 @@ check-section-spec =
     (tie.spec
     Inv-loop
     μ-loop
-    loop-holds
+    (λ c. search at-first)
     (λ c. search needs)
     (λ c. search needs)
     (λ c. search needs)
@@ -88,8 +65,8 @@ check-section-spec =
     (λ c. search needs)
     (λ c κs. search needs)
     (λ c. search needs)
-    returns
+    (λ c. search refused)
     (λ c. search needs)
     (λ c. search needs)
-    loop-again
-    returns-2)
+    (λ c. search passed)
+    (λ c. search none-refused))

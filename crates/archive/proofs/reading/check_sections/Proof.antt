@@ -1,125 +1,76 @@
+-- The first refusal of the sections from i on is that of the file, as all before them passed: section i has it, or passes too.
 use borrow.Author.Needs.{needs}
+use native.Mathlib.Nat.{add-sub-cancel-left}
 use native.Mathlib.Omega.{arith}
-use Prim.Native.Nat.{ℕ, _+_, _*_, _-_, _≤_}
+use Prim.Native.Nat.{ℕ, _+_, _*_, _-_, _/_, _%_, _<_, _≤_}
+use mathlib.Core.Bool.{true}
 use mathlib.Core.List.{List, map}
-use mathlib.Core.Path.{_≡_, sym, ap, _∙_}
+use mathlib.Core.Path.{_≡_, _∙_}
 use lib.Dec.{eqb}
-use lib.ListN.{length}
-use Rattle.archive.specs.Reading.{Pair, pairAt, pairsFrom, pairsOf, partAt, partsOf, numbersIn, numbersOf, sectionCount}
+use lib.ListN.{length, take, drop}
+use Rattle.archive.specs.Words.{wordAt}
+use Rattle.archive.specs.Reading.{pairAt, pairsFrom, pairsOf, partAt, partsOf, numbersIn, numbersOf, sectionCount, rightDirectory}
 use Rattle.archive.specs.Entries.{entriesOf, firstRefusal, finding}
-use Rattle.archive.proofs.Numbering.{no-files, part-read, length-part, section-refuses, section-passes}
-use Rattle.archive.proofs.Findings.{refusal-none}
-use Rattle.archive.proofs.Pairs.{Held, pair-held, pair-words, pairs-none}
+use Rattle.archive.specs.declared.entries.Checked.{Checked}
+use Rattle.archive.proofs.Numbering.{section-refuses, section-passes}
+use Rattle.archive.proofs.Pairs.{Held, pair-held, pairs-none}
+use Rattle.archive.proofs.Parts.{section-bytes}
 use Rattle.archive.proofs.Headers.{Measured, measured}
 use Rattle.archive.proofs.reading.check_sections.Statement.{statement}
 use Rattle.archive.proofs.reading.check_sections.Tie as tie
 
+-- from section i on, of n, its first entry having the index `first`
+record Rest (a : List ℕ) (n first i : ℕ) : Type 0 where
+  within : i ≤ n
+  all : n ≡ sectionCount a
+  small : first ≤ 134217728 * i
+  same : firstRefusal first (numbersOf (map (partAt a) (pairsFrom a i (n - i)))) ≡ firstRefusal 0 (numbersOf (partsOf a))
+
 abbrev Inv-loop : tie.InvT-loop
-Inv-loop archive count first₀ i₀ first i = (i ≤ count) × (count ≡ sectionCount archive) × (first ≤ 134217728 * i) × (firstRefusal first (numbersOf (map (partAt archive) (pairsFrom archive i (count - i)))) ≡ firstRefusal 0 (numbersOf (partsOf archive)))
+Inv-loop archive count first₀ i₀ first i = Rest archive count first i
 
 abbrev μ-loop : tie.MeasureT-loop
 μ-loop archive count first₀ i₀ first i = count - i
 
-sizes : (c : tie.After-shared-slice-known Inv-loop μ-loop) → Measured (c .before .args .archive .now)
-sizes c = measured (c .before .args .archive .now) (c .before .pre .0)
+sizes : (s : tie.Start Inv-loop μ-loop) → Measured (s .args .archive .now)
+sizes s = measured (s .args .archive .now) (s .pre .0)
 
--- the pair that this turn has read
-pair : (c : tie.After-word2 Inv-loop μ-loop) → _≡_ {A = Pair} (c .before .word .result, c .word2 .result) (pairAt (c .before .before .before .before .before .before .args .archive .now) (c .before .before .before .loop .i))
-pair c =
-    let l = c .before .before .before in
-    pair-words (l .before .before .before .args .archive .now) (l .loop .i) (c .before .word .result) (c .word2 .result) (c .before .word .ensures .0) (c .word2 .ensures .0)
-
-held : (c : tie.After-word2 Inv-loop μ-loop) → Held (length (c .before .before .before .before .before .before .args .archive .now)) (c .before .word .result, c .word2 .result)
-held c =
-    let l = c .before .before .before in
-    let a = l .before .before .before .args .archive .now in
-    rw (pair c) (pair-held a (l .loop .i) (l .before .before .before .pre .1) (omega arith))
-
-section-count-requires : tie.Need-section-count-requires Inv-loop μ-loop
-section-count-requires c κs = omega (arith, sizes c)
-
-loop-holds : tie.Need-loop-holds Inv-loop μ-loop
+at-first : (a : List ℕ) (n : ℕ) → n ≡ sectionCount a → Rest a n 0 0
 unfolding partsOf pairsOf
-loop-holds c =
-    let h = sizes (c .before) in
-    let a = c .before .before .args .archive .now in
-    let n = c .section-count .ensures .0 in
-    let z : sectionCount a - 0 ≡ sectionCount a = omega arith in
-    (search needs, n, omega arith, rw (n, z))
+at-first a n e =
+    let z : n - 0 ≡ n = omega arith in
+    record { within = omega arith; all = e; small = omega arith; same = rw (z, e) }
 
-mul-word : tie.Need-mul-word Inv-loop μ-loop
-mul-word c = let h = sizes (c .before .before .before) in omega arith
+module _ (a : List ℕ) (n first i : ℕ) (r : Rest a n first i) where
+  all-passed : n ≤ i → record { number = 0; index = 0 } ≡ firstRefusal 0 (numbersOf (partsOf a))
+  unfolding finding firstRefusal numbersOf
+  all-passed h = rw (pairs-none a n i h) at (r .same)
 
-add-word : tie.Need-add-word Inv-loop μ-loop
-add-word c = let h = sizes (c .before .before .before) in omega arith
+  -- the pair that this turn has read, and the part that it names
+  module _ (more : i < n) (o l : ℕ) (p : o ≡ wordAt a (8 + 8 * i)) (q : l ≡ wordAt a (12 + 8 * i)) (directed : rightDirectory a ≡ true) where
+    held : Held (length a) (o, l)
+    unfolding pairAt
+    held = rw (p, q) (pair-held a i directed (omega (arith, r)))
 
-word-requires : tie.Need-word-requires Inv-loop μ-loop
-word-requires c κs = let h = sizes (c .before .before .before) in omega arith
+    part-within : o + l ≤ length a
+    part-within = held .within
 
-mul-word-2 : tie.Need-mul-word-2 Inv-loop μ-loop
-mul-word-2 c = let h = sizes (c .before .before .before .before) in omega arith
+    part-whole : length (take (o + l - o) (drop o a)) % 32 ≡ 0
+    part-whole = rw (section-bytes a o l part-within) (held .multiple)
 
-add-word-2 : tie.Need-add-word-2 Inv-loop μ-loop
-add-word-2 c = let h = sizes (c .before .before .before .before) in omega arith
+    module _ (c : Checked) (e : c ≡ firstRefusal first (numbersIn (eqb (i + 1) n) (entriesOf (take (o + l - o) (drop o a))))) where
+      here : c ≡ firstRefusal first (numbersIn (eqb (i + 1) n) (entriesOf (partAt a (pairAt a i))))
+      unfolding partAt pairAt
+      here = cc (add-sub-cancel-left o l)
 
-word-requires-2 : tie.Need-word-requires-2 Inv-loop μ-loop
-word-requires-2 c κs = let h = sizes (c .before .before .before .before) in omega arith
+      part-refused : (c .number ≡ 0 → ⊥) → c ≡ firstRefusal 0 (numbersOf (partsOf a))
+      part-refused k = section-refuses a n i first more c here k ∙ r .same
 
-part-check-section-start : tie.Need-part-check-section-start Inv-loop μ-loop
-part-check-section-start c = let h = held c in omega arith
-
-part-check-section-end : tie.Need-part-check-section-end Inv-loop μ-loop
-part-check-section-end c = let h = held c in omega arith
-
-check-section-requires : tie.Need-check-section-requires Inv-loop μ-loop
-check-section-requires c κs =
-    let h = held (c .before) in
-    let l = c .before .before .before .before in
-    let s = length-part (l .before .before .before .args .archive .now) (c .before .before .word .result) (c .before .word2 .result) (h .within) in
-    let k = sizes (l .before .before) in
-    (rw s (h .multiple), omega arith)
-
-returns : tie.Need-returns Inv-loop μ-loop
-returns c =
-    let w = c .before .before .before .before in
-    let l = w .before .before .before in
-    let a = l .before .before .before .args .archive .now in
-    let i = l .loop .i in
-    let n = l .before .section-count .result in
-    let r = c .before .before .check-section .result in
-    let o = w .before .word .result in
-    let size = w .word2 .result in
-    let part = part-read a i o size (pair w) in
-    let e = c .before .before .check-section .ensures ∙ ap (λ (x : List ℕ). firstRefusal (l .loop .first) (numbersIn (eqb (i + 1) n) (entriesOf x))) part in
-    section-refuses a n i (l .loop .first) (omega arith) r e (c .if1 .taken) ∙ l .loop .inv .3
-
-loop-again : tie.Need-loop-again Inv-loop μ-loop
-loop-again c =
-    let w = c .before .before .before .before in
-    let l = w .before .before .before in
-    let a = l .before .before .before .args .archive .now in
-    let i = l .loop .i in
-    let n = l .before .section-count .result in
-    let r = c .before .before .check-section .result in
-    let o = w .before .word .result in
-    let size = w .word2 .result in
-    let part = part-read a i o size (pair w) in
-    let e = c .before .before .check-section .ensures ∙ ap (λ (x : List ℕ). firstRefusal (l .loop .first) (numbersIn (eqb (i + 1) n) (entriesOf x))) part in
-    let long = ap length (sym part) ∙ length-part a o size (held w .within) in (
-      omega arith,
-      l .loop .inv .1,
-      omega arith,
-      section-passes a n i (l .loop .first) (omega arith) r size long e (c .if1 .left) ∙ l .loop .inv .3,
-    )
-
-returns-2 : tie.Need-returns-2 Inv-loop μ-loop
-unfolding finding
-returns-2 c =
-    let l = c .before in
-    let a = l .before .before .before .args .archive .now in
-    sym (refusal-none (l .loop .first))
-    ∙ ap (firstRefusal (l .loop .first)) (sym (ap (λ (ps : List Pair). numbersOf (map (partAt a) ps)) (pairs-none a (l .before .section-count .result) (l .loop .i) (omega arith)) ∙ no-files a))
-    ∙ l .loop .inv .3
+      part-passed : c .number ≡ 0 → l < 4294967296 → (next j : ℕ) → next ≡ first + l / 32 → j ≡ i + 1 → Rest a n next j
+      unfolding partAt pairAt
+      part-passed k b next j u v =
+          let long : length (partAt a (pairAt a i)) ≡ l = cc (section-bytes a o l part-within, add-sub-cancel-left o l) in
+          rw (u, v) (record { within = omega arith; all = r .all; small = omega (arith, r); same = section-passes a n i first more c l long here k ∙ r .same })
 
 pub check-sections-spec : {M : Type 1} → statement M
 check-sections-spec =
@@ -127,23 +78,23 @@ check-sections-spec =
     (tie.spec
     Inv-loop
     μ-loop
-    section-count-requires
-    loop-holds
-    mul-word
-    add-word
-    word-requires
-    mul-word-2
-    add-word-2
-    word-requires-2
+    (λ c κs. omega (arith, sizes (search)))
+    (λ c. search at-first)
+    (λ c. omega (arith, sizes (search)))
+    (λ c. omega (arith, sizes (search)))
+    (λ c κs. omega (arith, sizes (search)))
+    (λ c. omega (arith, sizes (search)))
+    (λ c. omega (arith, sizes (search)))
+    (λ c κs. omega (arith, sizes (search)))
     (λ c. search needs)
     (λ c. search needs)
     (λ c. search needs)
-    part-check-section-start
-    part-check-section-end
-    check-section-requires
-    returns
+    (λ c. search needs)
+    (λ c. search part-within)
+    (λ c κs. (search part-whole, omega (arith, sizes (search))))
+    (λ c. search part-refused)
     (λ c. search needs)
     (λ c. search needs)
     (λ c. search needs)
-    loop-again
-    returns-2)
+    (λ c. search part-passed)
+    (λ c. search all-passed))

@@ -1,38 +1,41 @@
-use borrow.Author.Tests.{eq-eqb, ne-eqb}
+-- An entry's own number comes first; then the code's test of its place is that of number 10, case by case.
+use borrow.Author.Tests.{ne-eqb}
 use borrow.Author.Needs.{needs}
-use mathlib.Core.Bool.{Bool, true, false, not, _&&_, _||_}
-use mathlib.Core.Path.{_≡_, sym, ap, _∙_}
+use Prim.Native.Nat.{ℕ}
+use mathlib.Core.Bool.{Bool, true, false, cond, not, _&&_, _||_}
+use mathlib.Core.List.{List}
+use mathlib.Core.Path.{_≡_, refl}
 use Rattle.ledger.specs.Entries.{formNumber}
+use Rattle.archive.specs.Entries.{closesMonth}
 use Rattle.archive.specs.Reading.{misplaced, numberIn}
-use Rattle.archive.proofs.EntryPlaces.{place-test}
 use Rattle.archive.proofs.reading.number_in.Statement.{statement}
 use Rattle.archive.proofs.reading.number_in.Tie as tie
 
-returns : tie.Need-returns
-unfolding numberIn
-returns c =
-    let e = c .before .before .before .args .entry .now in
-    let number = c .before .entry-number .ensures in
-    rw (ne-eqb (formNumber e) 0 (λ z. c .if1 .taken (number ∙ z))) number
+place-test : (closes ends last : Bool) → (closes && not ends) || (not closes && ends && not last) ≡ cond closes (not ends) (ends && not last)
+place-test true true last = refl
+place-test true false last = refl
+place-test false ends last = refl
 
-returns-2 : tie.Need-returns-2
-unfolding numberIn
-returns-2 c =
-    let s : tie.Start = search in
-    let e = s .args .entry .now in
-    let right : formNumber e ≡ 0 = sym (c .before .before .before .entry-number .ensures) ∙ c .before .before .if1 .left in
-    let test : misplaced (s .args .ends) (s .args .last) e ≡ true = sym (place-test (s .args .ends) (s .args .last) e) ∙ ap (λ (b : Bool). (b && not (s .args .ends)) || (not b && s .args .ends && not (s .args .last))) (sym (c .before .closes-month .ensures)) ∙ c .if2 .taken in
-    rw (eq-eqb (formNumber e) 0 right, test)
+module _ (ends last : Bool) (e : List ℕ) (n : ℕ) (p : n ≡ formNumber e) where
+  form-wrong : (n ≡ 0 → ⊥) → n ≡ numberIn ends last e
+  unfolding numberIn
+  form-wrong d = cc (ne-eqb n 0 d)
 
-returns-3 : tie.Need-returns-3
-unfolding numberIn
-returns-3 c =
-    let s : tie.Start = search in
-    let e = s .args .entry .now in
-    let right : formNumber e ≡ 0 = sym (c .before .before .before .entry-number .ensures) ∙ c .before .before .if1 .left in
-    let test : misplaced (s .args .ends) (s .args .last) e ≡ false = sym (place-test (s .args .ends) (s .args .last) e) ∙ ap (λ (b : Bool). (b && not (s .args .ends)) || (not b && s .args .ends && not (s .args .last))) (sym (c .before .closes-month .ensures)) ∙ c .if2 .left in
-    rw (eq-eqb (formNumber e) 0 right, test)
+  module _ (z : n ≡ 0) (closes : Bool) (q : closes ≡ closesMonth e) where
+    out-of-place : (closes && not ends) || (not closes && ends && not last) ≡ true → 10 ≡ numberIn ends last e
+    unfolding numberIn misplaced
+    out-of-place t = cc (place-test closes ends last)
+
+    in-place : (closes && not ends) || (not closes && ends && not last) ≡ false → 0 ≡ numberIn ends last e
+    unfolding numberIn misplaced
+    in-place t = cc (place-test closes ends last)
 
 pub number-in-spec : {M : Type 1} → statement M
 number-in-spec =
-    tie.close (tie.spec (λ c κs. search needs) returns (λ c κs. search needs) returns-2 returns-3)
+    tie.close
+    (tie.spec
+    (λ c κs. search needs)
+    (λ c. search form-wrong)
+    (λ c κs. search needs)
+    (λ c. search out-of-place)
+    (λ c. search in-place))

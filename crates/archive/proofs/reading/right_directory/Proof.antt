@@ -1,95 +1,60 @@
+-- The pairs from i on, after the end reached, are right just where all are, as those before were: pair i is wrong and settles it, or moves the end.
 use borrow.Author.Tests.{not-true, not-false}
 use borrow.Author.Needs.{needs}
 use native.Mathlib.Omega.{arith}
-use Prim.Native.Nat.{_+_, _*_, _-_, _%_, _≤_}
-use mathlib.Core.Bool.{_&&_}
-use mathlib.Core.Path.{_≡_, sym, ap, _∙_}
+use Prim.Native.Nat.{ℕ, _+_, _*_, _-_, _%_, _<_, _≤_}
+use mathlib.Core.Bool.{Bool, true, false, not, _&&_}
+use mathlib.Core.List.{List}
+use mathlib.Core.Path.{_≡_}
 use lib.Dec.{eqb, ltb}
 use lib.ListN.{length}
 use Rattle.archive.specs.Layout.{bodyAt}
-use Rattle.archive.specs.Reading.{Pair, pairAt, pairsFrom, pairsOf, rightPairs, rightDirectory, sectionCount}
+use Rattle.archive.specs.Words.{wordAt}
+use Rattle.archive.specs.Reading.{pairAt, pairsFrom, pairsOf, rightLength, rightPairs, rightDirectory, sectionCount, wrongHeader}
 use Rattle.archive.proofs.Headers.{Measured, measured}
-use Rattle.archive.proofs.Pairs.{pair-words, pairs-next, pairs-none, pairs-wrong, pairs-right, pairs-end}
+use Rattle.archive.proofs.Pairs.{pairs-next, pairs-none}
 use Rattle.archive.proofs.reading.right_directory.Statement.{statement}
 use Rattle.archive.proofs.reading.right_directory.Tie as tie
 
+-- from pair i on, of n, the end reached
+record Rest (a : List ℕ) (n end i : ℕ) : Type 0 where
+  within : i ≤ n
+  all : n ≡ sectionCount a
+  small : end ≤ 9608 + 4294967296 * i
+  same : rightPairs (length a) end (pairsFrom a i (n - i)) ≡ rightDirectory a
+
 abbrev Inv-loop : tie.InvT-loop
-Inv-loop archive count end₀ i₀ end i = (i ≤ count) × (count ≡ sectionCount archive) × (end ≤ 9608 + 4294967296 * i) × (rightPairs (length archive) end (pairsFrom archive i (count - i)) ≡ rightDirectory archive)
+Inv-loop archive count end₀ i₀ end i = Rest archive count end i
 
 abbrev μ-loop : tie.MeasureT-loop
 μ-loop archive count end₀ i₀ end i = count - i
 
-sizes : (c : tie.After-shared-slice-known Inv-loop μ-loop) → Measured (c .before .args .archive .now)
-sizes c = measured (c .before .args .archive .now) (c .before .pre)
+sizes : (s : tie.Start Inv-loop μ-loop) → Measured (s .args .archive .now)
+sizes s = measured (s .args .archive .now) (s .pre)
 
-section-count-requires : tie.Need-section-count-requires Inv-loop μ-loop
-section-count-requires c κs = omega (arith, sizes c)
-
-loop-holds : tie.Need-loop-holds Inv-loop μ-loop
+at-first : (a : List ℕ) (n : ℕ) → wrongHeader a ≡ false → n ≡ sectionCount a → Rest a n (8 + 8 * n) 0
 unfolding rightDirectory pairsOf bodyAt
-loop-holds c =
-    let h = sizes (c .before) in
-    let a = c .before .before .args .archive .now in
-    let n = c .section-count .ensures .0 in
-    let z : sectionCount a - 0 ≡ sectionCount a = omega arith in
-    (search needs, n, omega arith, rw (n, z))
+at-first a n w e =
+    let h = measured a w in
+    let z : n - 0 ≡ n = omega arith in
+    record { within = omega arith; all = e; small = omega arith; same = rw (z, e) }
 
-mul-word : tie.Need-mul-word Inv-loop μ-loop
-mul-word c = let h = sizes (c .before .before .before) in omega arith
+module _ (a : List ℕ) (n end i : ℕ) (r : Rest a n end i) where
+  all-right : n ≤ i → eqb end (length a) ≡ rightDirectory a
+  unfolding rightPairs
+  all-right h = rw (pairs-none a n i h) at (r .same)
 
-add-word : tie.Need-add-word Inv-loop μ-loop
-add-word c = let h = sizes (c .before .before .before) in omega arith
+  module _ (more : i < n) (o l : ℕ) (p : o ≡ wordAt a (8 + 8 * i)) (q : l ≡ wordAt a (12 + 8 * i)) where
+    abbrev right : Bool
+    right = eqb o end && (ltb 0 l && eqb (l % 32) 0)
 
-word-requires : tie.Need-word-requires Inv-loop μ-loop
-word-requires c κs = let h = sizes (c .before .before .before) in omega arith
+    pair-wrong : not right ≡ true → false ≡ rightDirectory a
+    unfolding rightPairs rightLength pairAt
+    pair-wrong t = cc (rw (pairs-next a n i more) at (r .same), not-true right t)
 
-mul-word-2 : tie.Need-mul-word-2 Inv-loop μ-loop
-mul-word-2 c = let h = sizes (c .before .before .before .before) in omega arith
-
-add-word-2 : tie.Need-add-word-2 Inv-loop μ-loop
-add-word-2 c = let h = sizes (c .before .before .before .before) in omega arith
-
-word-requires-2 : tie.Need-word-requires-2 Inv-loop μ-loop
-word-requires-2 c κs = let h = sizes (c .before .before .before .before) in omega arith
-
-returns : tie.Need-returns Inv-loop μ-loop
-returns c =
-    let l = c .before .before .before .before in
-    let a = l .before .before .before .args .archive .now in
-    let i = l .loop .i in
-    let n = l .before .section-count .result in
-    let p = pair-words a i (c .before .before .word .result) (c .before .word2 .result) (c .before .before .word .ensures .0) (c .before .word2 .ensures .0) in
-    sym (pairs-wrong (length a) (l .loop .end) (pairAt a i) (pairsFrom a (i + 1) (n - (i + 1))) (ap (λ (q : Pair). eqb (q .0) (l .loop .end) && (ltb 0 (q .1) && eqb (q .1 % 32) 0)) (sym p) ∙ not-true _ (c .if1 .taken)))
-    ∙ ap (rightPairs (length a) (l .loop .end)) (sym (pairs-next a n i (omega arith)))
-    ∙ l .loop .inv .3
-
-add-end-2 : tie.Need-add-end-2 Inv-loop μ-loop
-add-end-2 c = let h = sizes (c .before .before .before .before .before .before) in omega arith
-
-loop-again : tie.Need-loop-again Inv-loop μ-loop
-loop-again c =
-    let l = c .before .before .before .before in
-    let a = l .before .before .before .args .archive .now in
-    let i = l .loop .i in
-    let n = l .before .section-count .result in
-    let p = pair-words a i (c .before .before .word .result) (c .before .word2 .result) (c .before .before .word .ensures .0) (c .before .word2 .ensures .0) in (
-      omega arith,
-      l .loop .inv .1,
-      omega arith,
-      ap (λ (q : Pair). rightPairs (length a) (l .loop .end + q .1) (pairsFrom a (i + 1) (n - (i + 1)))) p
-          ∙ sym (pairs-right (length a) (l .loop .end) (pairAt a i) (pairsFrom a (i + 1) (n - (i + 1))) (ap (λ (q : Pair). eqb (q .0) (l .loop .end) && (ltb 0 (q .1) && eqb (q .1 % 32) 0)) (sym p) ∙ not-false _ (c .if1 .left)))
-          ∙ ap (rightPairs (length a) (l .loop .end)) (sym (pairs-next a n i (omega arith)))
-          ∙ l .loop .inv .3,
-    )
-
-returns-2 : tie.Need-returns-2 Inv-loop μ-loop
-returns-2 c =
-    let l = c .before in
-    let a = l .before .before .before .args .archive .now in
-    let n = l .before .section-count .result in
-    sym (pairs-end (length a) (l .loop .end))
-    ∙ ap (rightPairs (length a) (l .loop .end)) (sym (pairs-none a n (l .loop .i) (omega arith)))
-    ∙ l .loop .inv .3
+    pair-right : not right ≡ false → l < 4294967296 → (next j : ℕ) → next ≡ end + l → j ≡ i + 1 → Rest a n next j
+    unfolding rightPairs rightLength pairAt
+    pair-right t b next j u v = rw (u, v) (record { within = omega arith; all = r .all; small = omega arith; same = cc (rw (pairs-next a n i more) at (r .same), not-false right t) })
 
 pub right-directory-spec : {M : Type 1} → statement M
 right-directory-spec =
@@ -97,19 +62,19 @@ right-directory-spec =
     (tie.spec
     Inv-loop
     μ-loop
-    section-count-requires
+    (λ c κs. omega (arith, sizes (search)))
     (λ c. search needs)
     (λ c. search needs)
-    loop-holds
-    mul-word
-    add-word
-    word-requires
-    mul-word-2
-    add-word-2
-    word-requires-2
-    returns
-    add-end-2
+    (λ c. search at-first)
+    (λ c. omega (arith, sizes (search)))
+    (λ c. omega (arith, sizes (search)))
+    (λ c κs. omega (arith, sizes (search)))
+    (λ c. omega (arith, sizes (search)))
+    (λ c. omega (arith, sizes (search)))
+    (λ c κs. omega (arith, sizes (search)))
+    (λ c. search pair-wrong)
+    (λ c. omega (arith, sizes (search)))
     (λ c. search needs)
     (λ c. search needs)
-    loop-again
-    returns-2)
+    (λ c. search pair-right)
+    (λ c. search all-right))

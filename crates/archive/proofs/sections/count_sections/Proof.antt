@@ -1,6 +1,8 @@
+-- The sections counted and those of the rest of the list are all of them: each turn counts the first of the rest and passes it.
 use borrow.Author.Needs.{needs}
 use native.Mathlib.Omega.{arith}
-use Prim.Native.Nat.{_+_, _-_, _%_, _≤_}
+use Prim.Native.Nat.{ℕ, _+_, _-_, _%_, _≤_}
+use mathlib.Core.List.{List}
 use mathlib.Core.Path.{_≡_, refl, ap}
 use lib.ListN.{length, drop, length-drop}
 use Rattle.archive.specs.Layout.{sectionsOf}
@@ -9,59 +11,58 @@ use Rattle.archive.proofs.Splits.{FirstAt, first-at, rest-multiple, no-
 use Rattle.archive.proofs.sections.count_sections.Statement.{statement}
 use Rattle.archive.proofs.sections.count_sections.Tie as tie
 
+-- from byte `at` on, some counted before it
+record Rest (s : List ℕ) (n at count : ℕ) : Type 0 where
+  within : at ≤ n
+  all : n ≡ length s
+  multiple : at % 32 ≡ 0
+  small : count ≤ at
+  same : count + length (sectionsOf (entriesOf (drop at s))) ≡ length (sectionsOf (entriesOf s))
+
 abbrev Inv-loop : tie.InvT-loop
-Inv-loop list n at₀ count₀ at count = (at ≤ n) × (n ≡ length list) × (at % 32 ≡ 0) × (count ≤ at) × (count + length (sectionsOf (entriesOf (drop at list))) ≡ length (sectionsOf (entriesOf list)))
+Inv-loop list n at₀ count₀ at count = Rest list n at count
 
 abbrev μ-loop : tie.MeasureT-loop
 μ-loop list n at₀ count₀ at count = n - at
 
-found : (c : tie.After-first-section Inv-loop μ-loop) → FirstAt (c .before .before .before .before .before .args .list .now) (c .before .before .before .loop .at) (c .first-section .result)
-found c =
-    let l = c .before .before .before in
-    first-at (l .before .before .args .list .now) (l .loop .at) (c .first-section .result) (omega arith) (omega arith) (omega arith) (c .first-section .ensures)
+at-first : (s : List ℕ) → Rest s (length s) 0 0
+at-first s = record { within = omega arith; all = refl; multiple = refl; small = omega arith; same = omega arith }
 
-loop-holds : tie.Need-loop-holds Inv-loop μ-loop
-loop-holds c = (search needs, refl, search needs, search needs, omega arith)
+module _ (s : List ℕ) (n at count : ℕ) (r : Rest s n at count) where
+  counted : n ≤ at → count ≡ length (sectionsOf (entriesOf s))
+  counted h =
+      let none = ap length (no-sections (drop at s) (rw length-drop (omega (arith, r)))) in
+      omega (arith, r)
 
-first-section-requires : tie.Need-first-section-requires Inv-loop μ-loop
-first-section-requires c κs =
-    let l = c .before .before in
-    rest-multiple (l .before .before .args .list .now) (l .loop .at) (omega arith) (omega arith) (omega arith)
+  passed : (size : ℕ) → FirstAt s at size → (next more : ℕ) → next ≡ at + size → more ≡ count + 1 → Rest s n next more
+  passed size f next more u v =
+      rw (u, v) (record { within = omega (arith, r); all = r .all; multiple = omega (arith, r); small = omega (arith, r); same = omega (arith, r) })
 
-add-at : tie.Need-add-at Inv-loop μ-loop
-add-at c = let f = found c in omega arith
+module _ (c : tie.After-first-section Inv-loop μ-loop) where
+  start : tie.Start Inv-loop μ-loop
+  start = search
 
-add-count : tie.Need-add-count Inv-loop μ-loop
-add-count c = let f = found c in omega arith
+  loop : tie.At-loop Inv-loop μ-loop
+  loop = search
 
-loop-less : tie.Need-loop-less Inv-loop μ-loop
-loop-less c = let f = found c in omega arith
-
-loop-again : tie.Need-loop-again Inv-loop μ-loop
-loop-again c =
-    let f = found c in
-    (omega arith, refl, omega arith, omega arith, omega arith)
-
-returns : tie.Need-returns Inv-loop μ-loop
-returns c =
-    let l = c .before in
-    let s = l .before .before .args .list .now in
-    let none = ap length (no-sections (drop (l .loop .at) s) (rw length-drop (omega arith))) in
-    omega arith
+  found : FirstAt (start .args .list .now) (loop .loop .at) (c .first-section .result)
+  unfolding start loop
+  found = search (first-at, arith)
 
 pub count-sections-spec : {M : Type 1} → statement M
+unfolding start loop
 count-sections-spec =
     tie.close
     (tie.spec
     Inv-loop
     μ-loop
-    loop-holds
+    (λ c. search at-first)
     (λ c. search needs)
     (λ c. search needs)
     (λ c. search needs)
-    first-section-requires
-    add-at
-    add-count
-    loop-less
-    loop-again
-    returns)
+    (λ c κs. search (rest-multiple, arith))
+    (λ c. omega (arith, found (search)))
+    (λ c. omega (arith, found (search)))
+    (λ c. omega (arith, found (search)))
+    (λ c. let f = found (search) in search passed)
+    (λ c. search counted))

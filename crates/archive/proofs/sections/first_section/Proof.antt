@@ -1,46 +1,45 @@
+-- No entry passed closes a month, so the entries passed and the lead of the rest are the lead of the list: the first that closes one ends the section.
 use borrow.Author.Needs.{needs}
 use native.Mathlib.Omega.{arith}
-use Prim.Native.Nat.{_+_, _*_, _-_, _/_, _≤_}
+use Prim.Native.Nat.{ℕ, _+_, _*_, _-_, _/_, _%_, _<_, _≤_}
+use mathlib.Core.Bool.{Bool, true, false}
+use mathlib.Core.List.{List, []}
 use mathlib.Core.Path.{_≡_, refl, sym, _∙_}
-use lib.ListN.{length, drop}
-use Rattle.archive.specs.Entries.{entriesOf, firstEntries}
+use lib.ListN.{length, getD, take, drop}
+use Rattle.archive.specs.Entries.{entriesOf, firstEntries, closesMonth}
+use Rattle.archive.specs.Layout.{sectionsOf}
 use Rattle.archive.proofs.Splits.{lead, lead-here, lead-later, lead-end, first-size}
 use Rattle.archive.proofs.sections.first_section.Statement.{statement}
 use Rattle.archive.proofs.sections.first_section.Tie as tie
 
+-- from entry k on, of n
+record Rest (s : List ℕ) (n k : ℕ) : Type 0 where
+  within : k ≤ n
+  all : n ≡ length s / 32
+  same : 32 * k + 32 * lead (firstEntries (n - k) (drop (32 * k) s)) ≡ 32 * lead (entriesOf s)
+
 abbrev Inv-loop : tie.InvT-loop
-Inv-loop list n k₀ k = (k ≤ n) × (n ≡ length list / 32) × (32 * k + 32 * lead (firstEntries (n - k) (drop (32 * k) list)) ≡ 32 * lead (entriesOf list))
+Inv-loop list n k₀ k = Rest list n k
 
 abbrev μ-loop : tie.MeasureT-loop
 μ-loop list n k₀ k = n - k
 
-loop-holds : tie.Need-loop-holds Inv-loop μ-loop
+at-first : (s : List ℕ) → Rest s (length s / 32) 0
 unfolding entriesOf
-loop-holds c =
-    let s = c .before .args .list .now in
+at-first s =
     let z : length s / 32 - 0 ≡ length s / 32 = omega arith in
-    (search needs, refl, rw z (omega arith))
+    record { within = omega arith; all = refl; same = rw z (omega arith) }
 
-returns : tie.Need-returns Inv-loop μ-loop
-returns c =
-    let l = c .before .before .before .before in
-    let s = l .before .before .args .list .now in
-    let one = lead-here (length s / 32) (l .loop .k) s (omega arith) (sym (c .before .closes-month .ensures) ∙ c .if1 .taken) in
-    rw (first-size s (omega arith)) (omega arith)
+module _ (s : List ℕ) (n k : ℕ) (r : Rest s n k) where
+  no-end : length s % 32 ≡ 0 → n ≤ k → length s ≡ length (getD (sectionsOf (entriesOf s)) 0 [])
+  no-end w h = rw (first-size s w) (omega (arith, lead-end n k (drop (32 * k) s) h))
 
-loop-again : tie.Need-loop-again Inv-loop μ-loop
-loop-again c =
-    let l = c .before .before .before .before in
-    let s = l .before .before .args .list .now in
-    let more = lead-later (length s / 32) (l .loop .k) s (omega arith) (sym (c .before .closes-month .ensures) ∙ c .if1 .left) in
-    (omega arith, refl, omega arith)
+  module _ (more : k < n) (closes : Bool) (e : closes ≡ closesMonth (take (32 * k + 32 - 32 * k) (drop (32 * k) s))) where
+    ends : length s % 32 ≡ 0 → closes ≡ true → 32 * k + 32 ≡ length (getD (sectionsOf (entriesOf s)) 0 [])
+    ends w t = rw (first-size s w) (omega (arith, lead-here n k s more (sym e ∙ t)))
 
-returns-2 : tie.Need-returns-2 Inv-loop μ-loop
-returns-2 c =
-    let l = c .before in
-    let s = l .before .before .args .list .now in
-    let none = lead-end (length s / 32) (l .loop .k) (drop (32 * l .loop .k) s) (omega arith) in
-    rw (first-size s (omega arith)) (omega arith)
+    goes-on : closes ≡ false → (j : ℕ) → j ≡ k + 1 → Rest s n j
+    goes-on t j i = rw i (record { within = omega arith; all = r .all; same = omega (arith, lead-later n k s more (sym e ∙ t)) })
 
 pub first-section-spec : {M : Type 1} → statement M
 first-section-spec =
@@ -48,15 +47,15 @@ first-section-spec =
     (tie.spec
     Inv-loop
     μ-loop
-    loop-holds
+    (λ c. search at-first)
     (λ c. search needs)
     (λ c. search needs)
     (λ c. search needs)
     (λ c. search needs)
     (λ c. search needs)
     (λ c κs. search needs)
-    returns
+    (λ c. search ends)
     (λ c. search needs)
     (λ c. search needs)
-    loop-again
-    returns-2)
+    (λ c. search goes-on)
+    (λ c. search no-end))

@@ -1,74 +1,60 @@
+-- The sheet so far, carried over the entries from k on, is the sheet of all: posting entry k and noting it carries the sheet over one more.
 use Rattle.archive.proofs.Grids.{grid-cells, sheetAfter, after-none, after-next, after-all}
 use Rattle.archive.proofs.EntryLists.{entries-next, entries-none}
 use Rattle.archive.specs.YearSheet.{grid, nothing, cellAt, bankIn, closesIn, cellAfter}
 use Rattle.archive.specs.Entries.{entriesOf, firstEntries}
 use Rattle.ledger.specs.State.{fresh}
+use Rattle.ledger.specs.Posting.{posted}
+use Rattle.ledger.specs.declared.state.Ledger.{Ledger}
+use Rattle.ledger.specs.declared.answers.Posted.{Posted}
 use Rattle.tariff.specs.declared.amounts.Units.{Units}
-use mathlib.Core.Path.{_≡_, refl, sym, ap, _∙_}
+use mathlib.Core.Path.{_≡_, refl, sym, _∙_}
 use mathlib.Core.Bool.{cond}
-use Prim.Native.Nat.{ℕ, _+_, _*_, _-_, _/_, _≤_}
+use mathlib.Core.List.{List}
+use Prim.Native.Nat.{ℕ, _+_, _*_, _-_, _/_, _<_, _≤_}
 use lib.ListN.{length, take, drop, length-take, length-drop}
 use native.Mathlib.Omega.{arith}
 use borrow.Author.Needs.{needs}
 use Rattle.archive.proofs.sheet.sheet_of.Statement.{statement}
 use Rattle.archive.proofs.sheet.sheet_of.Tie as tie
 
+-- from entry k on, of n
+record Rest (s : List ℕ) (year n : ℕ) (l : Ledger) (sheet : List (List Units)) (k : ℕ) : Type 0 where
+  within : k ≤ n
+  all : n ≡ length s / 32
+  cells : sheet ≡ grid (cellAt sheet)
+  same : sheetAfter year sheet l (firstEntries (n - k) (drop (32 * k) s)) ≡ grid (λ i m. cellAfter year i m nothing fresh (entriesOf s))
+
 abbrev Inv-loop : tie.InvT-loop
-Inv-loop list year n ledger₀ sheet₀ k₀ ledger sheet k =
-    (k ≤ n)
-    × (n ≡ length list / 32)
-    × (sheet ≡ grid (cellAt sheet))
-    × (sheetAfter year sheet ledger (firstEntries (n - k) (drop (32 * k) list)) ≡ grid (λ i m. cellAfter year i m nothing fresh (entriesOf list)))
+Inv-loop list year n ledger₀ sheet₀ k₀ ledger sheet k = Rest list year n ledger sheet k
 
 abbrev μ-loop : tie.MeasureT-loop
 μ-loop list year n ledger₀ sheet₀ k₀ ledger sheet k = n - k
 
-loop-holds : tie.Need-loop-holds Inv-loop μ-loop
+at-first : (s : List ℕ) (year : ℕ) (l : Ledger) (sheet : List (List Units)) → l ≡ fresh → sheet ≡ grid (λ i m. nothing) → Rest s year (length s / 32) l sheet 0
 unfolding entriesOf
-loop-holds c =
-    let a = c .before .before .before .args in
-    let s = a .list .now in
+at-first s year l sheet e f =
     let z : length s / 32 - 0 ≡ length s / 32 = omega arith in
-    let sheet = c .empty-sheet in
-    let ledger = c .before .fresh in (
-      search needs,
-      refl,
-      grid-cells (λ i m. nothing) (sheet .result) (sheet .ensures),
-      rw z (after-all (a .year) (sheet .result) (ledger .result) (firstEntries (length s / 32) s) (sheet .ensures) (ledger .ensures)),
-    )
+    record { within = omega arith; all = refl; cells = grid-cells (λ i m. nothing) sheet f; same = rw z (after-all year sheet l (firstEntries (length s / 32) s) f e) }
 
-noted-requires : tie.Need-noted-requires Inv-loop μ-loop
-noted-requires c κs = (c .before .before .before .before .before .before .loop .inv .2, simp (length-take, length-drop) (omega arith))
+module _ (s : List ℕ) (year n : ℕ) (l : Ledger) (sheet : List (List Units)) (k : ℕ) (r : Rest s year n l sheet k) where
+  all-noted : n ≤ k → sheet ≡ grid (λ i m. cellAfter year i m nothing fresh (entriesOf s))
+  all-noted h = sym (after-none year sheet l (r .cells)) ∙ (rw (entries-none n k (drop (32 * k) s) h) at (r .same))
 
-loop-again : tie.Need-loop-again Inv-loop μ-loop
-loop-again c =
-    let l = c .before .before .before .before .before .before .before in
-    let a = l .before .before .before .before .args in
-    let s = a .list .now in
-    let k = l .loop .k in
-    let sheet = l .loop .sheet in
-    let ledger = l .loop .ledger in
-    let e = take (32 * k + 32 - 32 * k) (drop (32 * k) s) in
-    let es = firstEntries (length s / 32 - (k + 1)) (drop (32 * (k + 1)) s) in
-    let p = c .before .before .before .before .post in
-    let next : ℕ → ℕ → Units = λ i m. cond (closesIn (a .year) m (p .result .answer .number) e) (bankIn (p .result .ledger) i) (cellAt sheet i m) in (
-      omega arith,
-      refl,
-      grid-cells next (c .noted .result) (c .noted .ensures),
-      after-next (a .year) sheet (c .noted .result) ledger (p .result) e es (p .ensures) (c .noted .ensures)
-          ∙ ap (sheetAfter (a .year) sheet ledger) (sym (entries-next (length s / 32) k s (omega arith)))
-          ∙ l .loop .inv .3,
-    )
+  abbrev entry : List ℕ
+  entry = take (32 * k + 32 - 32 * k) (drop (32 * k) s)
 
-returns : tie.Need-returns Inv-loop μ-loop
-returns c =
-    let l = c .before in
-    let a = l .before .before .before .before .args in
-    let s = a .list .now in
-    let k = l .loop .k in
-    sym (after-none (a .year) (l .loop .sheet) (l .loop .ledger) (l .loop .inv .2))
-    ∙ ap (sheetAfter (a .year) (l .loop .sheet) (l .loop .ledger)) (sym (entries-none (length s / 32) k (drop (32 * k) s) (omega arith)))
-    ∙ l .loop .inv .3
+  one-noted : k < n → (p : Posted) (next : List (List Units)) → p ≡ posted l entry
+      → next ≡ grid (λ i m. cond (closesIn year m (p .answer .number) entry) (bankIn (p .ledger) i) (cellAt sheet i m))
+      → (j : ℕ) → j ≡ k + 1 → Rest s year n (p .ledger) next j
+  one-noted more p next e f j u =
+      rw u
+      (record {
+        within = omega arith;
+        all = r .all;
+        cells = grid-cells (λ i m. cond (closesIn year m (p .answer .number) entry) (bankIn (p .ledger) i) (cellAt sheet i m)) next f;
+        same = after-next year sheet next l p entry (firstEntries (n - (k + 1)) (drop (32 * (k + 1)) s)) e f ∙ (rw (entries-next n k s more) at (r .same));
+      })
 
 pub sheet-of-spec : {M : Type 1} → statement M
 sheet-of-spec =
@@ -78,7 +64,7 @@ sheet-of-spec =
     μ-loop
     (λ c κs. search needs)
     (λ c κs. search needs)
-    loop-holds
+    (λ c. search at-first)
     (λ c. search needs)
     (λ c. search needs)
     (λ c. search needs)
@@ -88,8 +74,8 @@ sheet-of-spec =
     (λ c. search needs)
     (λ c. search needs)
     (λ c. search needs)
-    noted-requires
+    (λ c κs. (search needs, simp (length-take, length-drop) (omega arith)))
     (λ c. search needs)
     (λ c. search needs)
-    loop-again
-    returns)
+    (λ c. search one-noted)
+    (λ c. let v : tie.At-loop Inv-loop μ-loop = search in all-noted _ _ _ _ _ _ (v .loop .inv) (search)))

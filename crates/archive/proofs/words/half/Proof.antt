@@ -1,3 +1,4 @@
+-- Two bytes, the high one times 256: less than 65,536, as each byte is less than 256.
 use borrow.Author.Needs.{needs}
 use native.Mathlib.Omega.{arith}
 use Rattle.archive.proofs.Numbers.{half-read}

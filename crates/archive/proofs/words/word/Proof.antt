@@ -1,3 +1,4 @@
+-- Four bytes, each times 256 of the ones above it: less than 2 ^ 32, as each byte is less than 256.
 use borrow.Author.Needs.{needs}
 use native.Mathlib.Omega.{arith}
 use Rattle.archive.proofs.Numbers.{word-read}

@@ -1,6 +1,8 @@
+-- The bytes still to come are the directory of the sections from `at` on: each turn puts the first one's pair and passes it.
 use borrow.Author.Needs.{needs}
 use native.Mathlib.Omega.{arith}
 use Prim.Native.Nat.{ℕ, _+_, _*_, _-_, _%_, _≤_}
+use mathlib.Core.List.{List}
 use mathlib.Core.Path.{_≡_, refl, ap, _∙_}
 use lib.Seq.{paste, paste-zero, length-paste}
 use lib.ListN.{length, take, drop, length-drop}
@@ -13,108 +15,81 @@ use Rattle.archive.proofs.Splits.{FirstAt, first-at, rest-multiple, no-
 use Rattle.archive.proofs.writing.put_directory.Statement.{statement}
 use Rattle.archive.proofs.writing.put_directory.Tie as tie
 
+-- `done` bytes of the directory are put, and the list is passed up to `at`
+record Rest (d s x : List ℕ) (count n at done : ℕ) : Type 0 where
+  within : at ≤ n
+  all : n ≡ length s
+  multiple : at % 32 ≡ 0
+  long : length x ≡ length d
+  copied : x ≡ paste d 8 (directory (bodyAt count) (sectionsOf (entriesOf s))) done
+  left : drop done (directory (bodyAt count) (sectionsOf (entriesOf s))) ≡ directory (8 + 8 * count + at) (sectionsOf (entriesOf (drop at s)))
+  counted : done + 8 * length (sectionsOf (entriesOf (drop at s))) ≡ 8 * count
+
 abbrev Inv-loop : tie.InvT-loop
-Inv-loop out₀ list count n body at₀ done₀ out at done =
-    (at ≤ n)
-    × (n ≡ length list)
-    × (at % 32 ≡ 0)
-    × (length out ≡ length out₀)
-    × (out ≡ paste out₀ 8 (directory (bodyAt count) (sectionsOf (entriesOf list))) done)
-    × (drop done (directory (bodyAt count) (sectionsOf (entriesOf list))) ≡ directory (8 + 8 * count + at) (sectionsOf (entriesOf (drop at list))))
-    × (done + 8 * length (sectionsOf (entriesOf (drop at list))) ≡ 8 * count)
+Inv-loop out₀ list count n body at₀ done₀ out at done = Rest out₀ list out count n at done
 
 abbrev μ-loop : tie.MeasureT-loop
 μ-loop out₀ list count n body at₀ done₀ out at done = n - at
 
-found : (c : tie.After-first-section Inv-loop μ-loop) → FirstAt (c .before .before .before .before .before .before .args .list .now) (c .before .before .before .loop .at) (c .first-section .result)
-found c =
-    let l = c .before .before .before in
-    first-at (l .before .before .before .args .list .now) (l .loop .at) (c .first-section .result) (omega arith) (omega arith) (omega arith) (c .first-section .ensures)
-
-loop-holds : tie.Need-loop-holds Inv-loop μ-loop
+at-first : (d s : List ℕ) (count : ℕ) → count ≡ length (sectionsOf (entriesOf s)) → Rest d s d count (length s) 0 0
 unfolding bodyAt
-loop-holds c =
-    let s = c .before .before .args .list .now in
-    let count = c .before .before .args .count in
-    let z : 8 + 8 * count + 0 ≡ 8 + 8 * count = omega arith in (
-      search needs,
-      refl,
-      search needs,
-      refl,
-      paste-zero (c .before .before .args .out .now) 8 (directory (8 + 8 * count) (sectionsOf (entriesOf s))),
-      rw z,
-      omega arith,
-    )
+at-first d s count e =
+    let z : 8 + 8 * count + 0 ≡ 8 + 8 * count = omega arith in
+    record {
+      within = omega arith;
+      all = refl;
+      multiple = refl;
+      long = refl;
+      copied = paste-zero d 8 (directory (bodyAt count) (sectionsOf (entriesOf s)));
+      left = rw z;
+      counted = omega arith;
+    }
 
-first-section-requires : tie.Need-first-section-requires Inv-loop μ-loop
-first-section-requires c κs =
-    let l = c .before .before in
-    rest-multiple (l .before .before .before .args .list .now) (l .loop .at) (omega arith) (omega arith) (omega arith)
+module _ (d s x : List ℕ) (count n at done : ℕ) (r : Rest d s x count n at done) where
+  all-put : n ≤ at → x ≡ paste d 8 (directory (bodyAt count) (sectionsOf (entriesOf s))) (8 * count)
+  all-put h =
+      let none = ap length (no-sections (drop at s) (rw length-drop (omega (arith, r)))) in
+      let whole : done ≡ 8 * count = omega (arith, r) in
+      cc (r .copied)
 
-add-put-word : tie.Need-add-put-word Inv-loop μ-loop
-add-put-word c = let f = found (c .before) in omega arith
+  -- one pair more, where there is room for all: its first word is put, then its second
+  module _ (e : count ≡ length (sectionsOf (entriesOf s))) (hd : 8 + 8 * count ≤ length d) (size : ℕ) (f : FirstAt s at size)
+      (y : List ℕ) (hy : y ≡ paste x (8 + done) (bytesOf 4 (8 + 8 * count + at)) 4) where
+    second-fits : 12 + done + 4 ≤ length y
+    second-fits =
+        let same = ap length hy ∙ length-paste x (8 + done) (bytesOf 4 (8 + 8 * count + at)) 4 (omega (arith, r)) (omega (arith, length-bytes 4 (8 + 8 * count + at))) in
+        omega (arith, r)
 
-add-put-word-2 : tie.Need-add-put-word-2 Inv-loop μ-loop
-add-put-word-2 c = let f = found (c .before) in omega arith
+    pair-put : (z : List ℕ) → z ≡ paste y (12 + done) (bytesOf 4 size) 4 → (next more : ℕ) → next ≡ at + size → more ≡ done + 8 → Rest d s z count n next more
+    pair-put z hz next more u v =
+        let whole = directory (bodyAt count) (sectionsOf (entriesOf s)) in
+        let size-whole = length-directory (bodyAt count) (sectionsOf (entriesOf s)) in
+        let j : 8 + 8 * count + (at + size) ≡ 8 + 8 * count + at + size = omega arith in
+        let t = pair-more d whole x y z done (8 + 8 * count + at) size (take size (drop at s)) (sectionsOf (entriesOf (drop (at + size) s))) (r .copied) (omega arith) (omega (arith, r)) (f .taken) (rw (f .split) at (r .left)) hy hz in
+        rw (u, v)
+        (record {
+          within = omega (arith, r);
+          all = r .all;
+          multiple = omega (arith, r);
+          long = ap length (t .0) ∙ length-paste d 8 whole (done + 8) (omega (arith, r)) (omega (arith, r));
+          copied = t .0;
+          left = rw j (t .1);
+          counted = omega (arith, r);
+        })
 
-put-word-requires : tie.Need-put-word-requires Inv-loop μ-loop
-put-word-requires c κs = let f = found (c .before) in omega arith
+module _ (c : tie.After-first-section Inv-loop μ-loop) where
+  start : tie.Start Inv-loop μ-loop
+  start = search
 
-add-put-word-3 : tie.Need-add-put-word-3 Inv-loop μ-loop
-add-put-word-3 c = let f = found (c .before .before .before .before .before) in omega arith
+  loop : tie.At-loop Inv-loop μ-loop
+  loop = search
 
-put-word-requires-2 : tie.Need-put-word-requires-2 Inv-loop μ-loop
-put-word-requires-2 c κs =
-    let g = c .before .before .before .before .before in
-    let l = g .before .before .before in
-    let f = found g in
-    let v = 8 + 8 * l .before .before .before .args .count + l .loop .at in
-    let same = ap length (c .before .before .before .put-word .ensures) ∙ length-paste (l .loop .out) (8 + l .loop .done) (bytesOf 4 v) 4 (omega arith) (omega (arith, length-bytes 4 v)) in
-    omega arith
-
-add-at : tie.Need-add-at Inv-loop μ-loop
-add-at c = let f = found (c .before .before .before .before .before .before .before .before) in omega arith
-
-add-done : tie.Need-add-done Inv-loop μ-loop
-add-done c = let f = found (c .before .before .before .before .before .before .before .before) in omega arith
-
-loop-less : tie.Need-loop-less Inv-loop μ-loop
-loop-less c = let f = found (c .before .before .before .before .before .before .before .before) in omega arith
-
-loop-again : tie.Need-loop-again Inv-loop μ-loop
-loop-again c =
-    let g = c .before .before .before .before .before .before .before .before in
-    let l = g .before .before .before in
-    let f = found g in
-    let d = l .before .before .before .args .out .now in
-    let s = l .before .before .before .args .list .now in
-    let count = l .before .before .before .args .count in
-    let at = l .loop .at in
-    let size = g .first-section .result in
-    let whole = directory (bodyAt count) (sectionsOf (entriesOf s)) in
-    let long = length-directory (bodyAt count) (sectionsOf (entriesOf s)) in
-    let e = l .loop .inv .5 ∙ ap (directory (8 + 8 * count + at)) (f .split) in
-    let j : 8 + 8 * count + at + size ≡ 8 + 8 * count + (at + size) = omega arith in
-    let t = pair-more d whole (l .loop .out) (c .before .before .before .before .before .before .put-word .last .0) (c .before .before .put-word2 .last .0) (l .loop .done) (8 + 8 * count + at) size (take size (drop at s)) (sectionsOf (entriesOf (drop (at + size) s))) (l .loop .inv .4) (omega arith) (omega arith) (f .taken) e (c .before .before .before .before .before .before .put-word .ensures) (c .before .before .put-word2 .ensures) in (
-      omega arith,
-      refl,
-      omega arith,
-      ap length (t .0) ∙ length-paste d 8 whole (l .loop .done + 8) (omega arith) (omega arith),
-      t .0,
-      t .1 ∙ ap (λ (n : ℕ). directory n (sectionsOf (entriesOf (drop (at + size) s)))) j,
-      omega arith,
-    )
-
-returns : tie.Need-returns Inv-loop μ-loop
-returns c =
-    let l = c .before in
-    let d = l .before .before .before .args .out .now in
-    let s = l .before .before .before .args .list .now in
-    let none = ap length (no-sections (drop (l .loop .at) s) (rw length-drop (omega arith))) in
-    let all : l .loop .done ≡ 8 * l .before .before .before .args .count = omega arith in
-    l .loop .inv .4 ∙ ap (paste d 8 (directory (bodyAt (l .before .before .before .args .count)) (sectionsOf (entriesOf s)))) all
+  found : FirstAt (start .args .list .now) (loop .loop .at) (c .first-section .result)
+  unfolding start loop
+  found = search (first-at, arith)
 
 pub put-directory-spec : {M : Type 1} → statement M
+unfolding start loop
 put-directory-spec =
     tie.close
     (tie.spec
@@ -122,19 +97,19 @@ put-directory-spec =
     μ-loop
     (λ c. search needs)
     (λ c. search needs)
-    loop-holds
+    (λ c. search at-first)
     (λ c. search needs)
     (λ c. search needs)
     (λ c. search needs)
-    first-section-requires
-    add-put-word
-    add-put-word-2
-    put-word-requires
-    add-put-word-3
-    put-word-requires-2
-    add-at
-    add-done
-    loop-less
-    loop-again
+    (λ c κs. search (rest-multiple, arith))
+    (λ c. omega (arith, found (search)))
+    (λ c. omega (arith, found (search)))
+    (λ c κs. omega (arith, found (search)))
+    (λ c. omega (arith, found (search)))
+    (λ c κs. let f = found (search) in search second-fits)
+    (λ c. omega (arith, found (search)))
+    (λ c. omega (arith, found (search)))
+    (λ c. omega (arith, found (search)))
+    (λ c. let f = found (search) in search pair-put)
     (λ c. search needs)
-    returns)
+    (λ c. search all-put))
