@@ -8,20 +8,11 @@ use mathlib.Core.List.{List, [], _∷_}
 use lib.Dec.{eqb}
 use lib.ListN.{length}
 use lib.Seq.{take-all}
-use Rattle.ledger.specs.Entries.{entryOf, entryNumber, formNumber}
+use Rattle.ledger.specs.Entries.{formNumber}
 use Rattle.archive.specs.Entries.{firstEntries, entriesOf, closesMonth}
 use Rattle.archive.specs.Reading.{misplaced, numberIn}
 
 -- ---- an entry alone
-
-form-case : (b : Bool) (n : ℕ) → cond b n 1 ≡ 0 → b ≡ true
-form-case true n h = refl
-form-case false n h = absurd (omega arith)
-
--- an entry of the right form has 32 bytes
-pub form-length : (e : List ℕ) → formNumber e ≡ 0 → length e ≡ 32
-unfolding formNumber
-form-length e h = eqb-true (length e) 32 (form-case (eqb (length e) 32) (entryNumber (entryOf e)) h)
 
 pub one-entry : (e : List ℕ) → length e ≡ 32 → entriesOf e ≡ e ∷ []
 unfolding entriesOf firstEntries

@@ -10,7 +10,7 @@ use lib.ListN.{length, getD, take}
 use lib.Seq.{take-suc}
 use Rattle.tariff.proofs.Bools.{and-left, and-right, or-left, or-right}
 use Rattle.archive.specs.Words.{bytesOf, halfAt}
-use Rattle.archive.specs.Layout.{header, bodyAt}
+use Rattle.archive.specs.Layout.{opening, header, bodyAt}
 use Rattle.archive.specs.Reading.{sectionCount, rightOpening, wrongHeader}
 use Rattle.archive.specs.RoundTrips.{Bytes}
 use Rattle.archive.proofs.Numbers.{value-of-bytes, half-read}
@@ -76,13 +76,13 @@ measured a h =
 
 -- ---- the one is the other
 
-opening-bytes : (a : List ℕ) → rightOpening a ≡ true → (getD a 0 0 ≡ 69) × (getD a 1 0 ≡ 70) × (getD a 2 0 ≡ 66) × (getD a 3 0 ≡ 49)
+opening-bytes : (a : List ℕ) → rightOpening a ≡ true → (getD a 0 0 ≡ getD opening 0 0) × (getD a 1 0 ≡ getD opening 1 0) × (getD a 2 0 ≡ getD opening 2 0) × (getD a 3 0 ≡ getD opening 3 0)
 unfolding rightOpening
 opening-bytes a h = (
-  eqb-true (getD a 0 0) 69 (search (and-left, and-right)),
-  eqb-true (getD a 1 0) 70 (search (and-left, and-right)),
-  eqb-true (getD a 2 0) 66 (search (and-left, and-right)),
-  eqb-true (getD a 3 0) 49 (search (and-left, and-right)),
+  eqb-true (getD a 0 0) (getD opening 0 0) (search (and-left, and-right)),
+  eqb-true (getD a 1 0) (getD opening 1 0) (search (and-left, and-right)),
+  eqb-true (getD a 2 0) (getD opening 2 0) (search (and-left, and-right)),
+  eqb-true (getD a 3 0) (getD opening 3 0) (search (and-left, and-right)),
 )
 
 eight : (a : List ℕ) → 8 ≤ length a
@@ -93,7 +93,7 @@ eight a h =
 pub header-again : (a : List ℕ) → Bytes a → Headed a → header (sectionCount a) ≡ take 8 a
 unfolding header bytesOf sectionCount
 header-again a b h =
-    let o : (getD a 0 0 ≡ 69) × (getD a 1 0 ≡ 70) × (getD a 2 0 ≡ 66) × (getD a 3 0 ≡ 49) = opening-bytes a (h .opens) in
+    let o = opening-bytes a (h .opens) in
     let low : halfAt a 4 % 256 ≡ getD a 4 0 = rw (half-read a 4 (omega (arith, h .long))) (omega (arith, b 4, b 5)) in
     let high : halfAt a 4 / 256 % 256 ≡ getD a 5 0 = rw (half-read a 4 (omega (arith, h .long))) (omega (arith, b 4, b 5)) in
     rw (eight a (h .long), o .0, o .1, o .2, o .3, h .six, h .seven, low, high)

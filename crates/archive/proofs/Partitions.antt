@@ -14,7 +14,8 @@ use Rattle.archive.specs.Reading.{misplaced, numberIn, numbersIn, number
 use Rattle.archive.proofs.EntryLists.{length-entries, together-all, entries-of-append}
 use Rattle.archive.proofs.Splits.{no-sections}
 use Rattle.archive.proofs.Refusals.{Zeros, zeros-append, zeros-left, zeros-right}
-use Rattle.archive.proofs.EntryNumbers.{form-length, one-entry, number-parts, within-other, ends-final}
+use Rattle.ledger.proofs.Fields.{form-length}
+use Rattle.archive.proofs.EntryNumbers.{one-entry, number-parts, within-other, ends-final}
 
 -- ---- sections of whole entries, and not of none
 

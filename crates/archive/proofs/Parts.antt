@@ -5,7 +5,7 @@ use Prim.Native.Nat.{ℕ, suc, _+_, _-_, _≤_}
 use mathlib.Core.Path.{_≡_, sym, ap, _∙_}
 use mathlib.Core.List.{List, [], _∷_, _++_, append-nil, append-assoc}
 use lib.ListN.{length, take, drop, set, length-drop}
-use lib.Seq.{paste, sets-eq, take-all, take-take, length-take-le, drop-length, drop-drop, take-add, take-paste, drop-paste}
+use lib.Seq.{paste, sets-eq, take-all, length-take-le, drop-length, drop-drop, take-add, take-paste, drop-paste}
 
 -- four stores
 pub four-stored : (d : List ℕ) (at a b c e : ℕ) → at + 4 ≤ length d → set (set (set (set d at a) (at + 1) b) (at + 2) c) (at + 3) e ≡ paste d at (a ∷ b ∷ c ∷ e ∷ []) 4
@@ -20,13 +20,13 @@ past : (d : List ℕ) (off : ℕ) → drop (length d - off) (drop off d) ≡ []
 past d off = ap (λ (k : ℕ). drop k (drop off d)) (sym (length-drop off d)) ∙ drop-length (drop off d)
 
 -- a part from an offset to the end, filled from its start and back in its place
-lent-back : (d s ys : List ℕ) (off n : ℕ) → ys ≡ take n s ++ drop n (take (length d - off) (drop off d))
-    → take off d ++ (ys ++ drop (length d - off) (drop off d)) ≡ take off d ++ (take n s ++ drop (off + n) d)
-lent-back d s ys off n e =
+lent-back : (d p ys : List ℕ) (off : ℕ) → ys ≡ p ++ drop (length p) (take (length d - off) (drop off d))
+    → take off d ++ (ys ++ drop (length d - off) (drop off d)) ≡ take off d ++ (p ++ drop (off + length p) d)
+lent-back d p ys off e =
     ap (λ (l : List ℕ). take off d ++ l)
     (ap (λ (l : List ℕ). ys ++ l) (past d off) ∙ append-nil ys ∙ e
-    ∙ ap (λ (l : List ℕ). take n s ++ drop n l) (take-all (length d - off) (drop off d) (simp length-drop (omega arith)))
-    ∙ ap (λ (l : List ℕ). take n s ++ l) (drop-drop n off d))
+    ∙ ap (λ (l : List ℕ). p ++ drop (length p) l) (take-all (length d - off) (drop off d) (simp length-drop (omega arith)))
+    ∙ ap (λ (l : List ℕ). p ++ l) (drop-drop (length p) off d))
 
 -- n more elements after j: one longer copy
 pub paste-more : (d s x : List ℕ) (at j n : ℕ) → at ≤ length d → j ≤ length s → x ≡ paste d at s j
@@ -46,11 +46,8 @@ pub section-bytes : (s : List ℕ) (at size : ℕ) → at + size ≤ length s �
 section-bytes s at size h = rw add-sub-cancel-left (length-take-le size (drop at s) (rw length-drop (omega arith)))
 
 pub section-stored : (d s x ys : List ℕ) (body at size : ℕ) → x ≡ paste d body s at → body ≤ length d → at + size ≤ length s
-    → ys ≡ take (length (take (at + size - at) (drop at s))) (take (at + size - at) (drop at s)) ++ drop (length (take (at + size - at) (drop at s))) (take (length x - (body + at)) (drop (body + at) x))
+    → ys ≡ take (at + size - at) (drop at s) ++ drop (length (take (at + size - at) (drop at s))) (take (length x - (body + at)) (drop (body + at) x))
     → take (body + at) x ++ (ys ++ drop (length x - (body + at)) (drop (body + at) x)) ≡ paste d body s (at + size)
 section-stored d s x ys body at size e hd hs h =
-    let whole : take size (take (at + size - at) (drop at s)) ≡ take size (drop at s) = ap (λ (n : ℕ). take size (take n (drop at s))) (add-sub-cancel-left at size) ∙ take-take size size (drop at s) (omega arith) in
-    let copied = h ∙ ap (λ (n : ℕ). take n (take (at + size - at) (drop at s)) ++ drop n (take (length x - (body + at)) (drop (body + at) x))) (section-bytes s at size hs) in
-    lent-back x (take (at + size - at) (drop at s)) ys (body + at) size copied
-    ∙ ap (λ (l : List ℕ). take (body + at) x ++ (l ++ drop (body + at + size) x)) whole
-    ∙ paste-more d s x body at size hd (omega arith) e
+    lent-back x (take (at + size - at) (drop at s)) ys (body + at) h
+    ∙ rw (section-bytes s at size hs, add-sub-cancel-left at size) (paste-more d s x body at size hd (omega arith) e)

@@ -95,6 +95,14 @@ fn put_directory(out: &mut [u8], list: &[u8], count: usize)
     }
 }
 
+// A section at the start of what is lent, which is the output from the section's offset on; past the section it stays as it was.
+fn fill_section(out: &mut [u8], section: &[u8])
+    requires { ⌜ length (now section) ≤ length (now out) ⌝ }
+    ensures { λ _. ⌜ now (out .exit) ≡ now (section .entry) ++ drop (length (now (section .entry))) (now (out .entry)) ⌝ }
+{
+    bytes::copy(section, out);
+}
+
 // Each section in the part of the output that begins at its offset.
 fn put_sections(out: &mut [u8], list: &[u8], body: usize)
     requires { ⌜ (length (now list) % 32 ≡ 0) × (body + length (now list) ≤ length (now out)) ⌝ }
@@ -106,7 +114,7 @@ fn put_sections(out: &mut [u8], list: &[u8], body: usize)
         let size = first_section(&list[at..]);
         let end = at + size;
         let offset = body + at;
-        bytes::copy(&list[at..end], &mut out[offset..]);
+        fill_section(&mut out[offset..], &list[at..end]);
         at = end;
     }
 }

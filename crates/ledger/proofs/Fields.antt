@@ -1,9 +1,13 @@
--- Which bytes of an entry hold its kind and its date, for the layers above.
+-- What the bytes of an entry tell the layers above: where its kind and its date stand, and how long one of the right form is.
 use Prim.Native.Nat.{ℕ, _+_, _*_}
 use mathlib.Core.Path.{_≡_, refl}
+use mathlib.Core.Bool.{Bool, true, false, cond}
 use mathlib.Core.List.{List}
-use lib.ListN.{getD}
-use Rattle.ledger.specs.Entries.{byteAt, entryOf}
+use native.Mathlib.Omega.{arith}
+use lib.Dec.{eqb}
+use lib.ListN.{length, getD}
+use borrow.Author.Tests.{eqb-true}
+use Rattle.ledger.specs.Entries.{byteAt, entryNumber, entryOf, formNumber}
 
 module _ (bytes : List ℕ) where
   pub kind-byte : entryOf bytes .kind ≡ getD bytes 0 0
@@ -17,3 +21,11 @@ module _ (bytes : List ℕ) where
   pub month-byte : entryOf bytes .date .month .0 ≡ getD bytes 6 0
   unfolding entryOf byteAt
   month-byte = refl
+
+  pub form-length : formNumber bytes ≡ 0 → length bytes ≡ 32
+  unfolding formNumber
+  form-length h = eqb-true (length bytes) 32 (whole (eqb (length bytes) 32) (entryNumber (entryOf bytes)) h)
+    where
+      whole : (b : Bool) (n : ℕ) → cond b n 1 ≡ 0 → b ≡ true
+      whole true n h = refl
+      whole false n h = absurd (omega arith)
