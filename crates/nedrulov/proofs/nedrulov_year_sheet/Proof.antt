@@ -1,25 +1,29 @@
-use borrow.Author.Tests.{lt-ltb, le-ltb}
-use borrow.Author.Needs.{needs}
+-- Fewer cells than 192 stay as they were; else the sheet is worked out and put into the first 192.
+use mathlib.Core.Bool.{false, true}
 use mathlib.Core.List.{List, _++_}
-use mathlib.Core.Path.{refl, ap, _∙_}
-use lib.ListN.{length, drop}
+use mathlib.Core.Path.{_≡_, _∙_, ap, refl}
+use lib.Dec.{ltb}
+use lib.ListN.{drop, length}
+use borrow.Author.Needs.{needs}
+use borrow.Author.Tests.{le-ltb, lt-ltb}
+use Rattle.nedrulov.specs.Cells.{cellsAfter, cellsOf}
 use Rattle.tariff.specs.declared.amounts.Units.{Units}
-use Rattle.nedrulov.specs.Cells.{cellsOf, cellsAfter}
 use Rattle.nedrulov.proofs.nedrulov_year_sheet.Statement.{statement}
 use Rattle.nedrulov.proofs.nedrulov_year_sheet.Tie as tie
 
 returns : tie.Need-returns
 unfolding cellsAfter
-returns c = let h = lt-ltb (length (c .before .before .args .cells .now)) 192 (c .if1 .taken) in (rw h, rw h refl)
+returns c = let s : tie.Start = search in let short : ltb (length (s .args .cells .now)) 192 ≡ true = search lt-ltb in (rw short, rw short refl)
 
 returns-2 : tie.Need-returns-2
 unfolding cellsAfter
 returns-2 c =
     let s : tie.Start = search in
+    let sheet : tie.After-year-sheet = search in
+    let put : tie.After-put-cells = search in
     let d = s .args .cells .now in
-    let h = le-ltb (length d) 192 (c .before .before .before .before .if1 .left) in
-    (rw h, rw h (c .before .put-cells .ensures ∙ ap (λ (t : List (List Units)). cellsOf t ++ drop 192 d) (c .before .before .before .year-sheet .ensures)))
+    let long : ltb (length d) 192 ≡ false = search le-ltb in
+    (rw long, rw long (put .put-cells .ensures ∙ ap (λ (t : List (List Units)). cellsOf t ++ drop 192 d) (sheet .year-sheet .ensures)))
 
 pub nedrulov-year-sheet-spec : {M : Type 1} → statement M
-nedrulov-year-sheet-spec =
-    tie.close (tie.spec returns (λ c κs. search needs) (λ c κs. search needs) (λ c. search needs) returns-2)
+nedrulov-year-sheet-spec = tie.close (tie.spec returns (search needs) (search needs) (search needs) returns-2)

@@ -1,17 +1,18 @@
+-- Cell k is put where it belongs, so after k turns the first k cells are those of the sheet and the rest is as it was.
 use borrow.Author.Needs.{needs}
 use native.Mathlib.Nat.{zero-add, le-antisymm}
 use native.Mathlib.Numerals.{add-one}
 use native.Mathlib.Omega.{arith}
 use Prim.Native.Nat.{ℕ, suc, _+_, _-_, _/_, _%_, _≤_, _<_}
-use mathlib.Core.List.{List, _++_}
+use mathlib.Core.List.{List, [], _++_}
 use mathlib.Core.Path.{_≡_, refl, sym, ap, _∙_, subst}
 use lib.IntN.{ℤ, pos}
 use lib.Seq.{paste, paste-zero, paste-suc, take-all}
 use lib.ListN.{length, drop, getD, set, length-set}
 use mir.Syntax.{w64}
 use mir.Val.{toZ, ofZ}
-use Rattle.archive.proofs.Grids.{get-upTo, length-upTo}
-use Rattle.archive.specs.YearSheet.{cellAt, nothing}
+use Rattle.archive.proofs.Grids.{get-upTo, length-upTo, cell-at}
+use Rattle.archive.specs.YearSheet.{cellAt}
 use Rattle.tariff.specs.declared.amounts.Units.{Units}
 use Rattle.nedrulov.specs.Cells.{cellsOf}
 use Rattle.nedrulov.proofs.put_cells.Statement.{statement}
@@ -44,42 +45,28 @@ abbrev μ-loop : tie.MeasureT-loop
 loop-holds : tie.Need-loop-holds Inv-loop μ-loop
 loop-holds c = (search needs, refl, paste-zero (c .args .cells .now) 0 (cellsOf (c .args .t1)))
 
-slice-set-from-units : tie.Need-slice-set-from-units Inv-loop μ-loop
-slice-set-from-units c = omega arith
-
 loop-again : tie.Need-loop-again Inv-loop μ-loop
-unfolding nothing cellAt
 loop-again c =
-    let l = c .before .before .before in
-    let d = l .before .args .cells .now in
-    let sheet = l .before .args .t1 in
+    let s : tie.Start Inv-loop μ-loop = search in
+    let l : tie.At-loop Inv-loop μ-loop = search in
+    let sheet = s .args .t1 in
     let k = l .loop .k in
-    let z = cellAt sheet (k / 12) (k % 12) .0 in
+    let z = getD (getD sheet (k / 12) []) (k % 12) (record { 0 = pos 0 }) .0 in
     let same : toZ w64 (ofZ w64 z) ≡ z = search needs in
-    (omega arith, simp length-set (omega arith), ap (set (l .loop .cells) k) same ∙ cell-more sheet d (l .loop .cells) k (l .loop .inv .2) (omega arith) (omega arith))
+    let cell = ap (λ (u : Units). u .0) (cell-at sheet (k / 12) (k % 12)) in
+    (omega arith, simp length-set (omega arith), ap (set (l .loop .cells) k) (same ∙ sym cell) ∙ cell-more sheet (s .args .cells .now) (l .loop .cells) k (l .loop .inv .2) (omega arith) (omega arith))
 
 returns : tie.Need-returns Inv-loop μ-loop
 returns c =
-    let l = c .before in
-    let d = l .before .args .cells .now in
-    let sheet = l .before .args .t1 in
-    l .loop .inv .2 ∙ ap (paste d 0 (cellsOf sheet)) (le-antisymm (l .loop .inv .0) (c .loop-test .left)) ∙ cells-all sheet d
+    let s : tie.Start Inv-loop μ-loop = search in
+    let l : tie.At-loop Inv-loop μ-loop = search in
+    let d = s .args .cells .now in
+    l .loop .inv .2 ∙ ap (paste d 0 (cellsOf (s .args .t1))) (le-antisymm (l .loop .inv .0) (c .loop-test .left)) ∙ cells-all (s .args .t1) d
 
 pub put-cells-spec : {M : Type 1} → statement M
 put-cells-spec =
     tie.close
     (tie.spec
-    Inv-loop
-    μ-loop
-    loop-holds
-    (λ c. search needs)
-    (λ c. search needs)
-    (λ c. search needs)
-    (λ c. search needs)
-    (λ c. search needs)
-    slice-set-from-units
-    (λ c. search needs)
-    (λ c. search needs)
-    loop-again
-    (λ c. search needs)
-    returns)
+    Inv-loop μ-loop loop-holds
+    (search needs) (search needs) (search needs) (search needs) (search needs) (λ c. omega arith) (search needs) (search needs)
+    loop-again (search needs) returns)

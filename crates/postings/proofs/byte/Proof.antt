@@ -1,13 +1,12 @@
+-- A byte of the input is below 256, so it is so as a number of 64 bits.
 use native.Mathlib.Omega.{arith}
 use borrow.Author.Needs.{needs}
 use Rattle.postings.proofs.byte.Statement.{statement}
 use Rattle.postings.proofs.byte.Tie as tie
 
-cast-result : tie.Need-cast-result
-cast-result c = omega (arith, c .shared-slice-known .given (c .before .args .at))
-
-returns : tie.Need-returns
-returns c = omega (arith, c .shared-slice-known .given (c .before .args .at))
-
 pub byte-spec : {M : Type 1} → statement M
-byte-spec = tie.close (tie.spec (λ c. search needs) cast-result returns)
+byte-spec =
+    tie.close
+    (tie.spec
+    (search needs) (λ c. let s : tie.Start = search in omega (arith, c .shared-slice-known .given (s .args .at)))
+    (λ c. let s : tie.Start = search in omega (arith, c .shared-slice-known .given (s .args .at))))

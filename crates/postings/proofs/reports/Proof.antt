@@ -1,4 +1,5 @@
-use Prim.Native.Nat.{_≤_, _-_}
+-- The index goes through the sixteen reports and no further.
+use Prim.Native.Nat.{_-_, _≤_}
 use borrow.Author.Needs.{needs}
 use Rattle.postings.proofs.reports.Statement.{statement}
 use Rattle.postings.proofs.reports.Tie as tie
@@ -13,13 +14,5 @@ pub reports-spec : {M : Type 1} → statement M
 reports-spec =
     tie.close
     (tie.spec
-    Inv-loop
-    μ-loop
-    (λ c. search needs)
-    (λ c. search needs)
-    (λ c. search needs)
-    (λ c κs. search needs)
-    (λ c. search needs)
-    (λ c. search needs)
-    (λ c. search needs)
-    (λ c. search needs))
+    Inv-loop μ-loop (search needs) (search needs) (search needs) (search needs) (search needs) (search needs) (search needs)
+    (search needs))

@@ -1,5 +1,6 @@
-use borrow.Author.Needs.{needs}
+-- The months go through the twelve and no further.
 use Prim.Native.Nat.{_-_, _≤_}
+use borrow.Author.Needs.{needs}
 use Rattle.sheets.proofs.row.Statement.{statement}
 use Rattle.sheets.proofs.row.Tie as tie
 
@@ -13,17 +14,5 @@ pub row-spec : {M : Type 1} → statement M
 row-spec =
     tie.close
     (tie.spec
-    Inv-loop
-    μ-loop
-    (λ c. search needs)
-    (λ c. search needs)
-    (λ c κs. search needs)
-    (λ c. search needs)
-    (λ c. search needs)
-    (λ c κs. search needs)
-    (λ c. search needs)
-    (λ c. search needs)
-    (λ c. search needs)
-    (λ c. search needs)
-    (λ c κs. search needs)
-    (λ c. search needs))
+    Inv-loop μ-loop (search needs) (search needs) (search needs) (search needs) (search needs) (search needs) (search needs)
+    (search needs) (search needs) (search needs) (search needs) (search needs))

@@ -6,7 +6,7 @@ use Rattle.tariff.proofs.closing.bit.Statement.{statement}
 use Rattle.tariff.proofs.closing.bit.Tie as tie
 
 returns : tie.Need-returns
-returns c = let s : tie.Start = search in and-bound (λ bit. bit ≤ s .args .value) (cc) (search (needs, choice-le))
+returns c = let s : tie.Start = search in and-bound (λ bit. bit ≤ s .args .value) (search) (search (needs, choice-le))
 
 pub bit-spec : {M : Type 1} → statement M
 bit-spec = tie.close (tie.spec (search needs) returns)

@@ -6,4 +6,4 @@ use Rattle.tariff.proofs.closing.breaks_v7.Tie as tie
 
 pub breaks-v7-spec : {M : Type 1} → statement M
 unfolding breaksV7
-breaks-v7-spec = tie.close (tie.spec (search needs) (λ c. cc))
+breaks-v7-spec = tie.close (tie.spec (search needs) (λ c. search needs))

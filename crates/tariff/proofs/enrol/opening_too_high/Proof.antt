@@ -6,4 +6,4 @@ use Rattle.tariff.proofs.enrol.opening_too_high.Tie as tie
 
 pub opening-too-high-spec : {M : Type 1} → statement M
 unfolding openingTooHigh
-opening-too-high-spec = tie.close (tie.spec (search needs) (λ c. cc))
+opening-too-high-spec = tie.close (tie.spec (search needs) (λ c. let most : tie.After-percent = search in rw (most .percent .ensures .0)))

@@ -7,4 +7,4 @@ use Rattle.tariff.proofs.dates.Date.first_of_gas_year.Tie as tie
 
 pub first-of-gas-year-spec : {M : Type 1} → statement M
 unfolding firstOfGasYear april
-first-of-gas-year-spec = tie.close (tie.spec (search needs) (λ c. cc))
+first-of-gas-year-spec = tie.close (tie.spec (search needs) (λ c. search needs))

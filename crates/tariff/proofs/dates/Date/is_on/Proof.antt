@@ -6,4 +6,4 @@ use Rattle.tariff.proofs.dates.Date.is_on.Tie as tie
 
 pub is-on-spec : {M : Type 1} → statement M
 unfolding isOn
-is-on-spec = tie.close (tie.spec (search needs) (λ c. cc))
+is-on-spec = tie.close (tie.spec (search needs) (λ c. let same : tie.After-is = search in rw (same .is .ensures)))

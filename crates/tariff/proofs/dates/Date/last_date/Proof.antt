@@ -7,4 +7,4 @@ use Rattle.tariff.proofs.dates.Date.last_date.Tie as tie
 
 pub last-date-spec : {M : Type 1} → statement M
 unfolding lastDate december
-last-date-spec = tie.close (tie.spec (search needs) (λ c. cc))
+last-date-spec = tie.close (tie.spec (search needs) (λ c. let on : tie.After-is-on = search in rw (on .is-on .ensures)))

@@ -10,4 +10,8 @@ bounds s = date-bounds (s .args .self) (s .pre)
 
 pub last-of-month-spec : {M : Type 1} → statement M
 unfolding lastOfMonth
-last-of-month-spec = tie.close (tie.spec (λ c κs. omega (arith, bounds (search))) (λ c. cc))
+last-of-month-spec =
+    tie.close
+    (tie.spec
+    (λ c κs. omega (arith, bounds (search)))
+    (λ c. let last : tie.After-month-length = search in rw (last .month-length .ensures)))

@@ -10,4 +10,8 @@ bounds s = date-bounds (s .args .self) (s .pre)
 
 pub on-measurement-day-spec : {M : Type 1} → statement M
 unfolding onMeasurementDay
-on-measurement-day-spec = tie.close (tie.spec (λ c κs. omega (arith, bounds (search))) (λ c. cc))
+on-measurement-day-spec =
+    tie.close
+    (tie.spec
+    (λ c κs. omega (arith, bounds (search)))
+    (λ c. let day : tie.After-measurement-day = search in rw (day .measurement-day .ensures)))

@@ -6,4 +6,4 @@ use Rattle.tariff.proofs.dates.Date.same.Tie as tie
 
 pub same-spec : {M : Type 1} → statement M
 unfolding sameDate
-same-spec = tie.close (tie.spec (search needs) (λ c. cc))
+same-spec = tie.close (tie.spec (search needs) (λ c. let same : tie.After-is = search in rw (same .is .ensures)))

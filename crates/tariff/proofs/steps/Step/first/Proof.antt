@@ -7,4 +7,4 @@ use Rattle.tariff.proofs.steps.Step.first.Tie as tie
 
 pub first-spec : {M : Type 1} → statement M
 unfolding firstStep
-first-spec = tie.close (tie.spec (search needs) (λ c. (cc, omega arith)))
+first-spec = tie.close (tie.spec (search needs) (λ c. let step : tie.After-step-of = search in (rw (step .step-of .ensures .0), omega arith)))
