@@ -6,6 +6,7 @@ use mathlib.Core.Path.{_≡_, refl, sym, ap, ap₂, _∙_}
 use mathlib.Core.Bool.{Bool, true, false, cond, _&&_}
 use mathlib.Core.List.{List, [], _∷_}
 use lib.Dec.{eqb, ltb, eqb·zero-suc, eqb·suc-zero, eqb·suc-suc}
+use lib.IntN.{pos}
 use lib.ListN.{length, getD, set}
 use Rattle.tariff.specs.declared.amounts.Units.{Units}
 use Rattle.ledger.specs.State.{fresh}
@@ -44,6 +45,10 @@ module _ {A : Type 0} where
       ∙ same-upTo n (λ j. cond (eqb i j) x (f (suc j))) (λ j. cond (eqb (suc i) (suc j)) x (f (suc j))) (λ j k. rw (eqb·suc-suc i j))))
 
 -- ---- a grid
+
+pub cell-at : (sheet : List (List Units)) (i m : ℕ) → cellAt sheet i m ≡ getD (getD sheet i []) m (record { 0 = pos 0 })
+unfolding cellAt nothing
+cell-at sheet i m = refl
 
 module _ (f : ℕ → ℕ → Units) where
   cell-grid : (i m : ℕ) → i < 16 → m < 12 → cellAt (grid f) i m ≡ f i m

@@ -18,4 +18,3 @@ pub mod Trips
 pub mod Grids
 pub mod Replays
 pub mod ArchiveSizes
-pub mod HeldEntries

@@ -3,6 +3,7 @@ use Prim.Native.Nat.{ℕ, _+_, _*_, _-_, _<_, _≤_}
 use mathlib.Core.Path.{_≡_, refl, sym, ap, _∙_}
 use mathlib.Core.Bool.{Bool, true, false, cond}
 use mathlib.Core.List.{List, [], _∷_}
+use native.Mathlib.Omega.{arith}
 use lib.Dec.{eqb}
 use lib.ListN.{take, drop}
 use Rattle.ledger.specs.Posting.{posted}
@@ -16,6 +17,13 @@ use Rattle.archive.proofs.EntryLists.{entries-next, entries-none}
 -- 1 for number 0, else 0
 abbrev pub accepting : ℕ → ℕ
 accepting number = cond (eqb number 0) 1 0
+
+pub accepting-le : (number : ℕ) → accepting number ≤ 1
+accepting-le number = go (eqb number 0)
+  where
+    go : (t : Bool) → cond t 1 0 ≤ 1
+    go true = omega arith
+    go false = omega arith
 
 pub as-accepted : (b : List ℕ) (p : Posted) → asAccepted (record { bytes = b; answer = p .answer }) ≡ accepting (p .answer .number)
 unfolding asAccepted

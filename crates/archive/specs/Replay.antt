@@ -13,9 +13,12 @@ use Rattle.archive.specs.Reading.{checked, listOf}
 use Rattle.archive.specs.declared.replaying.Replay.{Replay}
 use Rattle.archive.specs.declared.replaying.Figures.{Figures}
 
--- the entries of an archive; none where it is refused
-unfoldable pub heldBy : List ℕ → List (List ℕ)
-heldBy a = cond (eqb (checked a .number) 0) (entriesOf (listOf a)) []
+-- the list in an archive; empty where it is refused
+unfoldable pub listIn : List ℕ → List ℕ
+listIn a = cond (eqb (checked a .number) 0) (listOf a) []
+
+unfoldable pub entriesIn : List ℕ → List (List ℕ)
+entriesIn a = entriesOf (listIn a)
 
 -- how many lines count, each as 1 or 0
 unfoldable pub countOf : (Line → ℕ) → List Line → ℕ
@@ -33,9 +36,9 @@ replayed a =
     record {
       number = checked a .number;
       index = checked a .index;
-      accepted = countOf asAccepted (history fresh (heldBy a));
-      refused = countOf asRefused (history fresh (heldBy a));
-      ledger = run fresh (heldBy a);
+      accepted = countOf asAccepted (history fresh (entriesIn a));
+      refused = countOf asRefused (history fresh (entriesIn a));
+      ledger = run fresh (entriesIn a);
     }
 
 -- "accepted count, refused count, panel figure", or the archive's number and index
@@ -52,7 +55,7 @@ figuresOf a =
 -- ---- demand 3, of every archive: the claims over every list hold of what the archive holds
 
 abbrev pub acceptedOf : List ℕ → List Line
-acceptedOf a = accepted (history fresh (heldBy a))
+acceptedOf a = accepted (history fresh (entriesIn a))
 
 abbrev pub BanksAddUp : Type 0
 BanksAddUp = (a : List ℕ) (i : ℕ) → i < 16 → bankOf (replayed a .ledger) i ≡ bankSum i (acceptedOf a)
@@ -69,5 +72,5 @@ DaysAddUp = (a : List ℕ) (i : ℕ) → i < 16 → daysOf (replayed a .ledger) 
 abbrev pub StrikingChangesNothing : Type 0
 StrikingChangesNothing =
     (a : List ℕ) (marks : List Bool)
-    → (history fresh (postingsOf (remaining marks (history fresh (heldBy a)))) ≡ remaining marks (history fresh (heldBy a)))
-    × (run fresh (postingsOf (remaining marks (history fresh (heldBy a)))) ≡ replayed a .ledger)
+    → (history fresh (postingsOf (remaining marks (history fresh (entriesIn a)))) ≡ remaining marks (history fresh (entriesIn a)))
+    × (run fresh (postingsOf (remaining marks (history fresh (entriesIn a)))) ≡ replayed a .ledger)

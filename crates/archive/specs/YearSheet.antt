@@ -14,7 +14,7 @@ use Rattle.ledger.specs.Posting.{posted}
 use Rattle.ledger.specs.Panel.{bankOf}
 use Rattle.ledger.specs.declared.state.Ledger.{Ledger}
 use Rattle.archive.specs.Entries.{closesMonth}
-use Rattle.archive.specs.Replay.{heldBy}
+use Rattle.archive.specs.Replay.{entriesIn}
 
 -- f of 0, 1, up to n − 1
 unfoldable pub upTo : {A : Type 0} → ℕ → (ℕ → A) → List A
@@ -51,4 +51,4 @@ cellAfter y i m x l (e ∷ es) =
     cellAfter y i m (cond (closesIn y m (posted l e .answer .number) e) (bankIn (posted l e .ledger) i) x) (posted l e .ledger) es
 
 unfoldable pub sheetOf : List ℕ → ℕ → List (List Units)
-sheetOf a y = grid (λ i m. cellAfter y i m nothing fresh (heldBy a))
+sheetOf a y = grid (λ i m. cellAfter y i m nothing fresh (entriesIn a))

@@ -23,12 +23,12 @@ ghost use Rattle.archive.specs.YearSheet.{sheetOf};
 ghost use Rattle.archive.specs.RoundTrips.{ReadsBack, WritesBack};
 ghost use Rattle.archive.specs.WorkedCases.{WorkedCases};
 use crate::reading::check_sections;
+use crate::reading::list_in;
 use crate::reading::nowhere;
 use crate::reading::right_directory;
 use crate::reading::section_count;
 use crate::reading::wrong_header;
 use crate::replaying::post_all;
-use crate::sheet::empty_sheet;
 use crate::sheet::sheet_of;
 use crate::words::word;
 use crate::writing::plan;
@@ -112,17 +112,8 @@ pub fn replay(archive: &[u8]) -> Replay
     ensures { λ r. ⌜ r ≡ replayed (now (archive .entry)) ⌝ }
 {
     let c = check(archive);
-    if c.number != 0 {
-        return Replay {
-            number: c.number,
-            index: c.index,
-            accepted: 0,
-            refused: 0,
-            ledger: ledger::fresh(),
-        };
-    }
-    let body = 8 + 8 * section_count(archive);
-    post_all(&archive[body..])
+    let list = list_in(archive, c.number);
+    post_all(list, c)
 }
 
 // Accepted count, refused count and panel figure.
@@ -146,11 +137,8 @@ pub fn year_sheet(archive: &[u8], year: u64) -> [[Units; 12]; 16]
     ensures { λ r. ⌜ r ≡ sheetOf (now (archive .entry)) year ⌝ }
 {
     let c = check(archive);
-    if c.number != 0 {
-        return empty_sheet();
-    }
-    let body = 8 + 8 * section_count(archive);
-    sheet_of(&archive[body..], year)
+    let list = list_in(archive, c.number);
+    sheet_of(list, year)
 }
 
 // Demand 2, of every list and every archive: specs/RoundTrips.antt has both directions in words.

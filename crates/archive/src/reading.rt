@@ -4,7 +4,8 @@ ghost use mathlib.Core.Bool.{true, false};
 ghost use Prim.Native.Nat.{_+_, _*_, _%_, _≤_, _<_};
 ghost use lib.ListN.{length};
 ghost use Rattle.archive.specs.Entries.{entriesOf, firstRefusal};
-ghost use Rattle.archive.specs.Reading.{sectionCount, rightOpening, wrongHeader, rightDirectory, misplaced, numberIn, numbersIn, numbersOf, partsOf, nowhere};
+ghost use Rattle.archive.specs.Reading.{sectionCount, rightOpening, wrongHeader, rightDirectory, misplaced, numberIn, numbersIn, numbersOf, partsOf, nowhere, checked};
+ghost use Rattle.archive.specs.Replay.{listIn};
 use crate::entries::Checked;
 use crate::entries::closes_month;
 use crate::words::half;
@@ -145,4 +146,17 @@ pub fn check_sections(archive: &[u8]) -> Checked
         number: 0,
         index: 0,
     }
+}
+
+// The list in an archive whose number is known: all that follows the directory, or nothing where the archive is refused.
+pub fn list_in(archive: &[u8], number: u64) -> &[u8]
+    requires { ⌜ number ≡ checked (now archive) .number ⌝ }
+    ensures { λ r. ⌜ now r ≡ listIn (now (archive .entry)) ⌝ }
+{
+    if number != 0 {
+        let end = archive.len();
+        return &archive[end..];
+    }
+    let body = 8 + 8 * section_count(archive);
+    &archive[body..]
 }

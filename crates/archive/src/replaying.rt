@@ -7,6 +7,7 @@ ghost use Rattle.ledger.specs.State.{fresh};
 ghost use Rattle.ledger.specs.Running.{history, run};
 ghost use Rattle.archive.specs.Entries.{entriesOf};
 ghost use Rattle.archive.specs.Replay.{countOf, asAccepted, asRefused};
+use crate::entries::Checked;
 use ledger::Ledger;
 use tariff::amounts::Units;
 
@@ -40,9 +41,9 @@ fn counted(number: u64) -> u64
     0
 }
 
-// The counts and the ledger after every entry of a list.
-pub fn post_all(list: &[u8]) -> Replay
-    ensures number { λ r. ⌜ (r .number ≡ 0) × (r .index ≡ 0) ⌝ }
+// The counts and the ledger after every entry of a list, beside what was found of the archive that it stands in.
+pub fn post_all(list: &[u8], found: Checked) -> Replay
+    ensures number { λ r. ⌜ (r .number ≡ found .number) × (r .index ≡ found .index) ⌝ }
     ensures accepted { λ r. ⌜ r .accepted ≡ countOf asAccepted (history fresh (entriesOf (now (list .entry)))) ⌝ }
     ensures refused { λ r. ⌜ r .refused ≡ countOf asRefused (history fresh (entriesOf (now (list .entry)))) ⌝ }
     ensures ledger { λ r. ⌜ r .ledger ≡ run fresh (entriesOf (now (list .entry))) ⌝ }
@@ -62,8 +63,8 @@ pub fn post_all(list: &[u8]) -> Replay
         refused += 1 - one;
     }
     Replay {
-        number: 0,
-        index: 0,
+        number: found.number,
+        index: found.index,
         accepted,
         refused,
         ledger,

@@ -27,7 +27,7 @@ use Rattle.archive.specs.Entries.{firstEntries, entriesOf, closesMonth, 
 use Rattle.archive.specs.Layout.{joined, sectionsOf, together, header, directory, bodyAt, packed, archiveOf}
 use Rattle.archive.specs.Writing.{listChecked, tooLarge, unwritten, written, outputAfter}
 use Rattle.archive.specs.Reading.{sectionCount, rightOpening, wrongHeader, pairAt, pairsFrom, pairsOf, rightLength, rightPairs, rightDirectory, partAt, partsOf, misplaced, numberIn, numbersIn, numbersOf, checked, nowhere, placeOf, sectionAt, listOf}
-use Rattle.archive.specs.Replay.{heldBy, countOf, asAccepted, asRefused, replayed, figuresOf}
+use Rattle.archive.specs.Replay.{listIn, entriesIn, countOf, asAccepted, asRefused, replayed, figuresOf}
 use Rattle.archive.specs.WorkedCases.{closings, WorkedCases}
 use Rattle.ledger.specs.MarkedCases.{closeMonth}
 use Rattle.archive.proofs.worked_cases.Statement.{statement}
@@ -66,7 +66,7 @@ too-many n room h =
     rw (whole, entries-closings n, right-closings n 0, sections-closings n, length-replicate n (closeMonth 0 0 0 0), lt-ltb 1200 n h)
 
 worked : WorkedCases
-unfolding within amountOf withinMills above percent sameMonth april divides leap lengths monthLength real sameDate isOn firstOfGasYear termsInRange mddqOf bcqOf capacityOf staysOnFbs openingTooHigh stepOf firstStep pricesInRange verdict entries.wordAt byteAt entryOf usesA usesB largestFlag wordsUsed termsOf pricesOf processOnly wishes accountTooHigh unusedSet wordsInRange wrongTransfer entryChecks entryNumber formNumber noTotals noMarks nobody fresh accountAt withAccount totalsInRange stepInRange accountInRange everyAccount inRange quiet plain refused settle reworked termsNext termsChecks postTerms newAccount enrolled enrolChecks enrolment standingChecks admission concernsSeveral postSeveral changeOf stored postKind postEntry posted openBank openBanks panelOf valueOf bytesOf halfAt wordAt firstEntries entriesOf closesMonth finding firstRefusal joined sectionsOf together header directory bodyAt packed archiveOf listChecked tooLarge unwritten written outputAfter sectionCount rightOpening wrongHeader pairAt pairsFrom pairsOf rightLength rightPairs rightDirectory partAt partsOf misplaced numberIn numbersIn numbersOf checked nowhere placeOf sectionAt listOf heldBy countOf asAccepted asRefused replayed figuresOf
+unfolding within amountOf withinMills above percent sameMonth april divides leap lengths monthLength real sameDate isOn firstOfGasYear termsInRange mddqOf bcqOf capacityOf staysOnFbs openingTooHigh stepOf firstStep pricesInRange verdict entries.wordAt byteAt entryOf usesA usesB largestFlag wordsUsed termsOf pricesOf processOnly wishes accountTooHigh unusedSet wordsInRange wrongTransfer entryChecks entryNumber formNumber noTotals noMarks nobody fresh accountAt withAccount totalsInRange stepInRange accountInRange everyAccount inRange quiet plain refused settle reworked termsNext termsChecks postTerms newAccount enrolled enrolChecks enrolment standingChecks admission concernsSeveral postSeveral changeOf stored postKind postEntry posted openBank openBanks panelOf valueOf bytesOf halfAt wordAt firstEntries entriesOf closesMonth finding firstRefusal joined sectionsOf together header directory bodyAt packed archiveOf listChecked tooLarge unwritten written outputAfter sectionCount rightOpening wrongHeader pairAt pairsFrom pairsOf rightLength rightPairs rightDirectory partAt partsOf misplaced numberIn numbersIn numbersOf checked nowhere placeOf sectionAt listOf listIn entriesIn countOf asAccepted asRefused replayed figuresOf
 worked =
     record {
       answer = refl;

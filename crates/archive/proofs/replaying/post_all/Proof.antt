@@ -1,75 +1,66 @@
+-- What is counted so far, with what the entries from k on will count, is what all of them count; the ledger likewise.
 use borrow.Author.Needs.{needs}
 use native.Mathlib.Omega.{arith}
-use Prim.Native.Nat.{_+_, _-_, _/_, _≤_}
+use Prim.Native.Nat.{ℕ, _+_, _*_, _-_, _/_, _<_, _≤_}
+use mathlib.Core.List.{List}
 use mathlib.Core.Path.{_≡_, refl, sym, _∙_}
-use lib.ListN.{length}
-use Rattle.ledger.specs.declared.answers.Posted.{Posted}
+use lib.ListN.{length, take, drop}
+use Rattle.ledger.specs.Posting.{posted}
 use Rattle.ledger.specs.Running.{history, run}
 use Rattle.ledger.specs.State.{fresh}
+use Rattle.ledger.specs.declared.state.Ledger.{Ledger}
+use Rattle.ledger.specs.declared.answers.Posted.{Posted}
 use Rattle.archive.specs.Replay.{countOf, asAccepted, asRefused}
 use Rattle.archive.specs.Entries.{entriesOf}
-use Rattle.archive.proofs.Replays.{accepting, as-accepted, as-refused, left, bytes, run-turn, count-turn, run-over, count-over}
+use Rattle.archive.proofs.Replays.{accepting, accepting-le, as-accepted, as-refused, left, bytes, run-turn, count-turn, run-over, count-over}
 use Rattle.archive.proofs.replaying.post_all.Statement.{statement}
 use Rattle.archive.proofs.replaying.post_all.Tie as tie
 
+-- from entry k on, of n
+record Rest (s : List ℕ) (n : ℕ) (l : Ledger) (accepted refused k : ℕ) : Type 0 where
+  within : k ≤ n
+  all : n ≡ length s / 32
+  some : accepted ≤ k
+  others : refused ≤ k
+  accepts : accepted + countOf asAccepted (history l (left n k s l)) ≡ countOf asAccepted (history fresh (entriesOf s))
+  refuses : refused + countOf asRefused (history l (left n k s l)) ≡ countOf asRefused (history fresh (entriesOf s))
+  same : run l (left n k s l) ≡ run fresh (entriesOf s)
+
 abbrev Inv-loop : tie.InvT-loop
-Inv-loop list n ledger₀ accepted₀ refused₀ k₀ ledger accepted refused k =
-    (k ≤ n)
-    × (n ≡ length list / 32)
-    × (accepted ≤ k)
-    × (refused ≤ k)
-    × (accepted + countOf asAccepted (history ledger (left n k list ledger)) ≡ countOf asAccepted (history fresh (entriesOf list)))
-    × (refused + countOf asRefused (history ledger (left n k list ledger)) ≡ countOf asRefused (history fresh (entriesOf list)))
-    × (run ledger (left n k list ledger) ≡ run fresh (entriesOf list))
+Inv-loop list found n ledger₀ accepted₀ refused₀ k₀ ledger accepted refused k = Rest list n ledger accepted refused k
 
 abbrev μ-loop : tie.MeasureT-loop
-μ-loop list n ledger₀ accepted₀ refused₀ k₀ ledger accepted refused k = n - k
+μ-loop list found n ledger₀ accepted₀ refused₀ k₀ ledger accepted refused k = n - k
 
-loop-holds : tie.Need-loop-holds Inv-loop μ-loop
+at-first : (s : List ℕ) (l : Ledger) → l ≡ fresh → Rest s (length s / 32) l 0 0 0
 unfolding entriesOf
-loop-holds c =
-    let s = c .before .before .args .list .now in
+at-first s l e =
     let z : length s / 32 - 0 ≡ length s / 32 = omega arith in
-    let l = c .fresh .ensures in (
-      search needs,
-      refl,
-      search needs,
-      search needs,
-      rw (z, l) (omega arith),
-      rw (z, l) (omega arith),
-      rw (z, l),
-    )
+    record { within = omega arith; all = refl; some = omega arith; others = omega arith; accepts = rw (z, e) (omega arith); refuses = rw (z, e) (omega arith); same = rw (z, e) }
 
-loop-again : tie.Need-loop-again Inv-loop μ-loop
-loop-again c =
-    let g = c .before .before .before .before .before .before in
-    let s = g .before .before .before .args .list .now in
-    let n = length s / 32 in
-    let k = g .loop .k in
-    let l = g .loop .ledger in
-    let p = c .before .before .before .post .result in
-    let e = c .before .before .before .post .ensures in
-    let b = bytes n k s l in
-    let one = c .counted .ensures .0 in
-    let yes = count-turn n k s l asAccepted (λ (q : Posted). accepting (q .answer .number)) (as-accepted b) (omega arith) p e in
-    let no = count-turn n k s l asRefused (λ (q : Posted). 1 - accepting (q .answer .number)) (as-refused b) (omega arith) p e in (
-      omega arith,
-      refl,
-      omega arith,
-      omega arith,
-      omega arith,
-      omega arith,
-      run-turn n k s l (omega arith) p e ∙ g .loop .inv .6,
-    )
+module _ (s : List ℕ) (n : ℕ) (l : Ledger) (accepted refused k : ℕ) (r : Rest s n l accepted refused k) where
+  one-posted : k < n → (p : Posted) → p ≡ posted l (take (32 * k + 32 - 32 * k) (drop (32 * k) s)) → (one : ℕ) → one ≡ accepting (p .answer .number)
+      → (taken passed j : ℕ) → taken ≡ accepted + one → passed ≡ refused + (1 - one) → j ≡ k + 1 → Rest s n (p .ledger) taken passed j
+  one-posted more p e one u taken passed j v w z =
+      let small = accepting-le (p .answer .number) in
+      let counted = count-turn n k s l asAccepted (λ (q : Posted). accepting (q .answer .number)) (as-accepted (bytes n k s l)) more p e in
+      let others = count-turn n k s l asRefused (λ (q : Posted). 1 - accepting (q .answer .number)) (as-refused (bytes n k s l)) more p e in
+      rw z
+      (record {
+        within = omega arith;
+        all = r .all;
+        some = omega (arith, r);
+        others = omega (arith, r);
+        accepts = omega (arith, r);
+        refuses = omega (arith, r);
+        same = run-turn n k s l more p e ∙ r .same;
+      })
 
-returns : tie.Need-returns Inv-loop μ-loop
-returns c =
-    let g = c .before in
-    let s = g .before .before .before .args .list .now in
-    let n = length s / 32 in
-    let yes = count-over n (g .loop .k) s (g .loop .ledger) asAccepted (omega arith) in
-    let no = count-over n (g .loop .k) s (g .loop .ledger) asRefused (omega arith) in
-    ((refl, refl), (omega arith, (omega arith, sym (run-over n (g .loop .k) s (g .loop .ledger) (omega arith)) ∙ g .loop .inv .6)))
+  all-posted : n ≤ k → (accepted ≡ countOf asAccepted (history fresh (entriesOf s))) × (refused ≡ countOf asRefused (history fresh (entriesOf s))) × (l ≡ run fresh (entriesOf s))
+  all-posted h =
+      let none = count-over n k s l asAccepted h in
+      let neither = count-over n k s l asRefused h in
+      (omega (arith, r), omega (arith, r), sym (run-over n k s l h) ∙ r .same)
 
 pub post-all-spec : {M : Type 1} → statement M
 post-all-spec =
@@ -78,7 +69,7 @@ post-all-spec =
     Inv-loop
     μ-loop
     (λ c κs. search needs)
-    loop-holds
+    (λ c. search at-first)
     (λ c. search needs)
     (λ c. search needs)
     (λ c. search needs)
@@ -91,5 +82,5 @@ post-all-spec =
     (λ c. search needs)
     (λ c. search needs)
     (λ c. search needs)
-    loop-again
-    returns)
+    (λ c. search one-posted)
+    (λ c. let v : tie.At-loop Inv-loop μ-loop = search in let e = all-posted _ _ _ _ _ _ (v .loop .inv) (search) in ((refl, refl), (e .0, (e .1, e .2)))))
