@@ -1,5 +1,6 @@
 //! A command's operands and options, taken from the words after its name.
 
+use crate::echo;
 use crate::entry::Day;
 use crate::failure::Failure;
 use nedrulov::ACCOUNTS;
@@ -52,7 +53,7 @@ impl Arguments {
             Some((name, value)) => (name, Some(OsString::from(value))),
             None => (text, None),
         };
-        let unknown = || Failure::Usage(format!("unknown option {name}"));
+        let unknown = || Failure::Usage(format!("unknown option {}", echo::bare(name)));
         let option = options
             .iter()
             .find(|known| known.name == name)
@@ -75,8 +76,8 @@ impl Arguments {
 
     fn complete(self, operands: &[&str], options: &[Opt]) -> Result<Arguments, Failure> {
         if let Some(extra) = self.operands.get(operands.len()) {
-            let extra = extra.to_string_lossy();
-            return Err(Failure::Usage(format!("\"{extra}\" is one word too many")));
+            let extra = echo::os_word(extra);
+            return Err(Failure::Usage(format!("{extra} is one word too many")));
         }
         if let Some(missing) = operands.get(self.operands.len()) {
             return Err(Failure::Usage(format!("{missing} is missing")));
@@ -116,7 +117,8 @@ impl Arguments {
         let text = self.operands[operand].to_string_lossy();
         let digits = text.len() == 4 && text.bytes().all(|b| b.is_ascii_digit());
         let year = text.parse().ok().filter(|_| digits);
-        year.ok_or_else(|| Failure::Usage(format!("\"{text}\" is no year, as 2026")))
+        let wrong = || echo::os_word(&self.operands[operand]);
+        year.ok_or_else(|| Failure::Usage(format!("{} is no year, as 2026", wrong())))
     }
 
     fn value(&self, option: &str) -> Option<&OsString> {
@@ -130,13 +132,14 @@ impl Arguments {
         expected: &str,
         read: impl Fn(&str) -> Option<T>,
     ) -> Result<Option<T>, Failure> {
-        let Some(text) = self.value(option).map(|value| value.to_string_lossy()) else {
+        let Some(text) = self.value(option) else {
             return Ok(None);
         };
-        match read(&text) {
+        match read(&text.to_string_lossy()) {
             Some(value) => Ok(Some(value)),
             None => Err(Failure::Usage(format!(
-                "{option} needs {expected}, not \"{text}\""
+                "{option} needs {expected}, not {}",
+                echo::os_word(text)
             ))),
         }
     }

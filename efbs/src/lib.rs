@@ -6,6 +6,8 @@ pub mod arguments;
 pub mod calendar;
 pub mod cli;
 pub mod command;
+pub mod diagnosis;
+pub mod echo;
 pub mod entry;
 pub mod failure;
 pub mod files;
