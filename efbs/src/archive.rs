@@ -5,6 +5,8 @@ use nedrulov::ENTRY_BYTES;
 
 /// The first bytes of every archive.
 pub const OPENING: &[u8] = b"EFB1";
+/// And a section ends with each month's closing.
+pub const MOST_SECTIONS: usize = 1_200;
 
 const HEADER: usize = 8;
 const PAIR: usize = 8;
@@ -52,6 +54,8 @@ pub enum Length {
     Exactly(u64),
     /// Header or directory are cut off themselves.
     AtLeast(u64),
+    /// It would have more sections than there can be.
+    Unknown,
 }
 
 pub fn length_by_directory(archive: &[u8]) -> Length {
@@ -60,16 +64,16 @@ pub fn length_by_directory(archive: &[u8]) -> Length {
     }
     let end = directory_end(archive);
     match archive.get(end - PAIR..end) {
+        _ if end > HEADER + PAIR * MOST_SECTIONS => Length::Unknown,
         None => Length::AtLeast(end as u64),
         Some(_) if end == HEADER => Length::Exactly(end as u64),
-        Some(pair) => {
-            // The last section's offset and length.
-            let numbers = pair.chunks_exact(PAIR / 2).map(|number| {
-                let bytes = number.iter().rev().map(|byte| u64::from(*byte));
-                bytes.fold(0, |number, byte| number << 8 | byte)
-            });
-            Length::Exactly(numbers.sum())
-        }
+        // The last section's offset and length.
+        Some(pair) => Length::Exactly(
+            pair.chunks_exact(PAIR / 2)
+                .filter_map(|number| number.try_into().ok())
+                .map(|number| u64::from(u32::from_le_bytes(number)))
+                .sum(),
+        ),
     }
 }
 

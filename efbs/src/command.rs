@@ -128,9 +128,9 @@ const SHEET: Command = Command {
     options: &[flag("--csv")],
     about: "banks after each month of the gas year that begins in April of YEAR",
     help: "\
-In Dth, a row for every account that the archive ever enrolls. 0.00 also stands where a month was not closed or an
-account not yet open.
-  --csv   plain numbers separated by commas, below a line of names",
+In Dth, a row for every account that the archive ever enrolls. A dash stands where a month is not closed or an account
+not yet enrolled.
+  --csv   plain numbers separated by commas, below a line of names; an empty cell where the page has a dash",
     run: sheet,
 };
 

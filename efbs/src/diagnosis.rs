@@ -32,16 +32,15 @@ pub fn of_archive(number: u64, archive: &[u8]) -> String {
 
 fn of_length(archive: &[u8]) -> String {
     let found = archive.len() as u64;
-    let (Length::Exactly(told) | Length::AtLeast(told)) = length_by_directory(archive);
-    let least = match length_by_directory(archive) {
-        Length::Exactly(_) => "by its directory",
-        Length::AtLeast(_) => "at least",
+    let (told, lengths) = match length_by_directory(archive) {
+        Length::Exactly(told) => (told, format!("its directory tells of {}", whole(told))),
+        Length::AtLeast(told) => (
+            told,
+            format!("header and directory alone have {}", whole(told)),
+        ),
+        Length::Unknown => return DAMAGED.to_string(),
     };
-    let lengths = format!(
-        "it has {} bytes and should have {least} {}",
-        whole(found),
-        whole(told)
-    );
+    let lengths = format!("it has {} bytes, {lengths}", whole(found));
     match found {
         _ if found < told => format!("It is cut off: {lengths}. Take another copy of it."),
         _ if found > told => format!("It is too long: {lengths}. Take another copy of it."),
@@ -73,21 +72,26 @@ mod tests {
     fn lengths_are_told() {
         let whole = archive();
         for (length, expected) in [
-            (3, "at least 8"),
-            (7, "at least 8"),
-            (8, "at least 24"),
-            (23, "at least 24"),
-            (24, "by its directory 120"),
-            (119, "by its directory 120"),
+            (3, "header and directory alone have 8"),
+            (7, "header and directory alone have 8"),
+            (8, "header and directory alone have 24"),
+            (23, "header and directory alone have 24"),
+            (24, "its directory tells of 120"),
+            (119, "its directory tells of 120"),
         ] {
             let told = of_archive(9, &whole[..length]);
-            let expected = format!("cut off: it has {length} bytes and should have {expected}.");
+            let expected = format!("cut off: it has {length} bytes, {expected}.");
             assert!(told.contains(&expected), "{told}");
         }
         let longer = of_archive(9, &[whole.clone(), vec![0; 5]].concat());
-        assert!(longer.contains("too long: it has 125 bytes and should have by its directory 120."));
+        assert!(longer.contains("too long: it has 125 bytes, its directory tells of 120."));
         assert_eq!(of_archive(9, &whole), DAMAGED);
         assert_eq!(of_archive(3, &whole[..100]), DAMAGED);
+        assert_eq!(
+            of_archive(8, b"EFB1\xb1\x04\0\0"),
+            DAMAGED,
+            "1,201 sections"
+        );
         assert!(of_archive(8, b"").contains("empty"));
     }
 

@@ -20,3 +20,4 @@ pub mod shown;
 pub mod statement;
 pub mod text;
 pub mod words;
+pub mod year_sheet;

@@ -1,5 +1,5 @@
-//! The words above a chart: a flag for each group of days with the same sign, placed in rows so that no flag covers
-//! another and no pole runs through a word.
+//! The words above a chart: a flag for each movement of gas and for each group of days with the same violations, placed
+//! in rows so that no flag covers another and no pole runs through a word.
 
 use super::gas_year::{BankDay, Course};
 use super::scale::{Scale, FLAG_ROW, WIDTH};
@@ -15,7 +15,7 @@ const LETTER: f64 = 6.6;
 const BEFORE_WORDS: f64 = 17.0;
 const AFTER_WORDS: f64 = 8.0;
 
-/// Adjoining days with the same sign.
+/// Adjoining days with exactly the same violations, or one day's movement.
 struct Group {
     sign: Sign,
     /// Offset of the first day in the year, where the pole stands.
@@ -55,10 +55,9 @@ impl Group {
         BEFORE_WORDS + self.text().chars().count() as f64 * LETTER + AFTER_WORDS
     }
 
-    fn take(&mut self, day: &BankDay, moved: i64) {
-        self.days += 1;
-        self.mask |= day.report.mask;
-        self.moved += moved;
+    fn goes_on_with(&self, day: &BankDay) -> bool {
+        let adjoins = self.first + self.days == day.offset;
+        adjoins && self.sign == Sign::Violation && self.mask == day.report.mask
     }
 }
 
@@ -93,11 +92,8 @@ fn groups(sign: Sign, course: &Course) -> Vec<Group> {
         let Some(moved) = sign.moved(&day.report) else {
             continue;
         };
-        match groups
-            .last_mut()
-            .filter(|group| group.first + group.days == day.offset)
-        {
-            Some(group) => group.take(day, moved),
+        match groups.last_mut().filter(|group| group.goes_on_with(day)) {
+            Some(group) => group.days += 1,
             None => groups.push(Group {
                 sign,
                 first: day.offset,

@@ -1,12 +1,12 @@
 //! A list of entries that grows up to what an archive can hold.
 
 use super::Fault;
+use crate::archive::MOST_SECTIONS;
 use crate::entry::{Entry, Kind};
 use std::io;
 
 /// What an archive can have at most; the library has the last word.
 const MOST_BYTES: usize = u32::MAX as usize;
-const MOST_MONTHS: usize = 1_200;
 const TOO_MUCH: u64 = 11;
 
 pub struct List {
@@ -35,7 +35,7 @@ impl List {
             number => return Err(refused(number)),
         }
         self.months += usize::from(entry.kind == Kind::CloseMonth);
-        if self.bytes.len() + bytes.len() > self.most_bytes || self.months > MOST_MONTHS {
+        if self.bytes.len() + bytes.len() > self.most_bytes || self.months > MOST_SECTIONS {
             return Err(refused(TOO_MUCH));
         }
         let room = self.bytes.try_reserve(bytes.len());
@@ -83,7 +83,7 @@ mod tests {
     #[test]
     fn no_more_months_than_an_archive_can_have() {
         let mut list = List::default();
-        for line in 1..=MOST_MONTHS {
+        for line in 1..=MOST_SECTIONS {
             assert!(list.add(line, &closing(Kind::CloseMonth)).is_ok());
         }
         let added = list.add(1_201, &closing(Kind::CloseMonth));
