@@ -120,6 +120,7 @@ fn overview() -> String {
     }
     text + "
 Gas is in Dth and money in dollars unless said otherwise. A.efb is an archive, N an account from 0 to 15.
+As a file - is standard input, and after -o standard output. A file after -o is replaced whole or not at all.
 Exit status: 0 done; 1 refused, not readable or not in agreement; 2 asked for in a wrong way.
 efbs COMMAND --help tells more of a command.
 "

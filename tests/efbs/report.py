@@ -125,6 +125,21 @@ def compare(checks, name, archive, year):
     return sum(map(len, told.values()))
 
 
+def headlines(checks, folder):
+    """Of an archive of two gas years each has its own: what the panel showed as the year ended, with that day."""
+    first = entries.years(date(2026, 4, 1), date(2027, 3, 31), 2, random.Random(2))
+    both = entries.years(date(2026, 4, 1), date(2028, 2, 14), 2, random.Random(2))
+    checks.that(both[:len(first)] == first, "the second list goes on where the first ends")
+    paths = [write(f"{folder}/{name}.efb", entries.archive(made)) for name, made in (("first", first), ("both", both))]
+    counts = (len(first), len(both) - len(first))
+    for year, path, day, count in zip((2026, 2027), paths, ("31 March 2027", "14 February 2028"), counts):
+        text = run("report", paths[1], str(year))[1].decode()
+        figure, panel = Page(text).figure, run("panel", path)[1].split()[2]
+        checks.that(hundredths(figure) == int(panel), f"the headline of {year}, {figure}")
+        checks.that(f">{day}</span></p></div>" in text, f"the headline of {year} is of {day}")
+        checks.that(f"postings of the year accepted</dt><dd>{count:,}</dd>" in text, f"{count} postings in {year}")
+
+
 def parser_notices(checks, page):
     """The parser itself: each of these changes is wrong."""
     for old, new in (
@@ -141,6 +156,7 @@ def main():
     days = compare(checks, "the sample", sample, 2026)
     checks.that(days == 8, "violation days of the sample")
     parser_notices(checks, run("report", sample, "2026")[1].decode())
+    headlines(checks, folder)
     # Sixteen suppliers with more violation days than a chart has room to flag.
     made = entries.years(date(2026, 4, 1), date(2027, 3, 31), 16, random.Random(16))
     days = compare(checks, "sixteen suppliers", write(f"{folder}/sixteen.efb", entries.archive(made)), 2026)

@@ -1,6 +1,7 @@
 //! Input: a file, or standard input by the name of -.
 
 use super::standard;
+use crate::archive::OPENING;
 use crate::echo;
 use crate::failure::Failure;
 use std::fs::File;
@@ -9,6 +10,7 @@ use std::path::Path;
 
 /// No archive is longer than one byte less; what follows cannot make it right.
 const ENOUGH: u64 = 1 << 32;
+const BEGINNING: u64 = 1 << 12;
 
 pub fn open(path: &Path) -> Result<File, Failure> {
     let opened = match is_standard(path) {
@@ -41,12 +43,17 @@ pub fn unreadable(path: &Path, error: io::Error) -> Failure {
 
 pub fn read_archive(path: &Path) -> Result<Vec<u8>, Failure> {
     let file = open(path)?;
+    read_from(file).map_err(|error| unreadable(path, error))
+}
+
+/// As much as can matter: of what does not begin as an archive does, only the beginning.
+fn read_from(mut file: File) -> io::Result<Vec<u8>> {
     let mut bytes = Vec::new();
-    let length = file.metadata().map_or(0, |about| about.len().min(ENOUGH));
-    let room = bytes
-        .try_reserve_exact(length as usize)
-        .map_err(io::Error::from);
-    room.and_then(|()| file.take(ENOUGH).read_to_end(&mut bytes))
-        .map_err(|error| unreadable(path, error))?;
+    file.by_ref().take(BEGINNING).read_to_end(&mut bytes)?;
+    if bytes.starts_with(OPENING) {
+        let length = file.metadata().map_or(0, |about| about.len().min(ENOUGH));
+        bytes.try_reserve_exact(length as usize)?;
+        file.take(ENOUGH - BEGINNING).read_to_end(&mut bytes)?;
+    }
     Ok(bytes)
 }

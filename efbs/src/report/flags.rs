@@ -8,7 +8,6 @@ use crate::shown::gas;
 use crate::words::violation_list;
 
 const MOST_ROWS: usize = 4;
-const MOST_NAMES: usize = 4;
 /// Of a letter in a flag, in the chart's own measure; a generous mean.
 const LETTER: f64 = 6.6;
 /// From the pole to the first letter, and from the last letter to the next pole.
@@ -62,16 +61,8 @@ impl Group {
 }
 
 fn violation_names(mask: u64) -> String {
-    let list = violation_list(mask);
-    let mut names: Vec<String> = list
-        .iter()
-        .take(MOST_NAMES)
-        .map(|v| format!("V{v}"))
-        .collect();
-    if list.len() > MOST_NAMES {
-        names.push("…".to_string());
-    }
-    names.join(" ")
+    let names = violation_list(mask).into_iter().map(|v| format!("V{v}"));
+    names.collect::<Vec<_>>().join(" ")
 }
 
 /// The flags of a chart; none at all where they need too many rows or the last would run out of the drawing.
