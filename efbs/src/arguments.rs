@@ -4,7 +4,8 @@ use crate::echo;
 use crate::entry::Day;
 use crate::failure::Failure;
 use nedrulov::ACCOUNTS;
-use std::ffi::OsString;
+use std::ffi::{OsStr, OsString};
+use std::os::unix::ffi::OsStrExt;
 use std::path::Path;
 
 /// An option with its name and, if it takes one, the name of its value.
@@ -12,6 +13,18 @@ pub struct Opt {
     pub name: &'static str,
     pub value: Option<&'static str>,
     pub required: bool,
+}
+
+/// An option's name and the value joined to it by =. A value may be a file name of any bytes.
+fn divided(word: &OsStr) -> (&OsStr, Option<OsString>) {
+    let bytes = word.as_bytes();
+    match bytes.iter().position(|byte| *byte == b'=') {
+        Some(end) => {
+            let [name, value] = [&bytes[..end], &bytes[end + 1..]].map(OsStr::from_bytes);
+            (name, Some(value.to_os_string()))
+        }
+        None => (word, None),
+    }
 }
 
 #[derive(Default)]
@@ -37,7 +50,7 @@ impl Arguments {
             } else if text == "--" {
                 ended = true;
             } else {
-                found.add_option(&text, &mut words, options)?;
+                found.add_option(word, &mut words, options)?;
             }
         }
         found.complete(operands, options)
@@ -45,20 +58,18 @@ impl Arguments {
 
     fn add_option<'a>(
         &mut self,
-        text: &str,
+        word: &OsStr,
         words: &mut impl Iterator<Item = &'a OsString>,
         options: &'static [Opt],
     ) -> Result<(), Failure> {
-        let (name, joined) = match text.split_once('=') {
-            Some((name, value)) => (name, Some(OsString::from(value))),
-            None => (text, None),
-        };
+        let (name, joined) = divided(word);
         let unknown = || Failure::Usage(format!("unknown option {}", echo::bare(name)));
         let option = options
             .iter()
             .find(|known| known.name == name)
             .ok_or_else(unknown)?;
-        if self.options.iter().any(|(known, _)| *known == name) {
+        let name = option.name;
+        if self.has(name) {
             return Err(Failure::Usage(format!("{name} is given twice")));
         }
         let value = match (option.value, joined) {
@@ -70,13 +81,13 @@ impl Arguments {
                 words.next().cloned().ok_or_else(missing)?
             }
         };
-        self.options.push((option.name, value));
+        self.options.push((name, value));
         Ok(())
     }
 
     fn complete(self, operands: &[&str], options: &[Opt]) -> Result<Arguments, Failure> {
         if let Some(extra) = self.operands.get(operands.len()) {
-            let extra = echo::os_word(extra);
+            let extra = echo::word(extra);
             return Err(Failure::Usage(format!("{extra} is one word too many")));
         }
         if let Some(missing) = operands.get(self.operands.len()) {
@@ -117,7 +128,7 @@ impl Arguments {
         let text = self.operands[operand].to_string_lossy();
         let digits = text.len() == 4 && text.bytes().all(|b| b.is_ascii_digit());
         let year = text.parse().ok().filter(|_| digits);
-        let wrong = || echo::os_word(&self.operands[operand]);
+        let wrong = || echo::word(&self.operands[operand]);
         year.ok_or_else(|| Failure::Usage(format!("{} is no year, as 2026", wrong())))
     }
 
@@ -139,7 +150,7 @@ impl Arguments {
             Some(value) => Ok(Some(value)),
             None => Err(Failure::Usage(format!(
                 "{option} needs {expected}, not {}",
-                echo::os_word(text)
+                echo::word(text)
             ))),
         }
     }

@@ -84,7 +84,7 @@ fn refused(name: &str, Refusal { number, index }: Refusal, next: &str) -> String
 }
 
 fn no_command(name: &OsStr) -> u8 {
-    let message = format!("there is no command {}", echo::os_word(name));
+    let message = format!("there is no command {}", echo::word(name));
     wrong_use(&message, "efbs help")
 }
 

@@ -8,22 +8,21 @@ const WORD: usize = 60;
 const PATH: usize = 300;
 
 /// A word in quotes.
-pub fn word(text: &str) -> String {
-    format!("\"{}\"", escaped(text.as_bytes(), WORD))
-}
-
-/// A word of the command line in quotes, whatever its bytes.
-pub fn os_word(text: &OsStr) -> String {
-    format!("\"{}\"", escaped(text.as_bytes(), WORD))
+pub fn word(text: impl AsRef<OsStr>) -> String {
+    format!("\"{}\"", bare(text))
 }
 
 /// A name or number that stands without quotes.
-pub fn bare(text: &str) -> String {
-    escaped(text.as_bytes(), WORD)
+pub fn bare(text: impl AsRef<OsStr>) -> String {
+    escaped(text.as_ref().as_bytes(), WORD)
 }
 
+/// The name of a file; an empty one is shown too.
 pub fn path(path: &Path) -> String {
-    escaped(path.as_os_str().as_bytes(), PATH)
+    match path.as_os_str().is_empty() {
+        true => word(path),
+        false => escaped(path.as_os_str().as_bytes(), PATH),
+    }
 }
 
 /// The first `most` characters; what does not print is written as Rust writes it, a byte that is no UTF-8 as \xff.
@@ -80,8 +79,9 @@ mod tests {
             assert_eq!(bare(text), shown);
         }
         let bytes = OsStr::from_bytes(b"a\xff\xc3b");
-        assert_eq!(os_word(bytes), "\"a\\xff\\xc3b\"");
+        assert_eq!(word(bytes), "\"a\\xff\\xc3b\"");
         assert_eq!(path(Path::new(bytes)), "a\\xff\\xc3b");
+        assert_eq!(path(Path::new("")), "\"\"");
     }
 
     #[test]
@@ -95,7 +95,7 @@ mod tests {
         );
         let bytes = [0xff; WORD + 1];
         assert_eq!(
-            os_word(OsStr::from_bytes(&bytes)),
+            word(OsStr::from_bytes(&bytes)),
             format!("\"{}…\"", "\\xff".repeat(WORD))
         );
     }

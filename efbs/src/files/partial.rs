@@ -86,6 +86,7 @@ impl Guard {
     /// file.
     fn over(path: &Path, mode: u32) -> io::Result<Guard> {
         let mut child = Command::new("/proc/self/exe")
+            .arg0("efbs")
             .arg(GUARD)
             .arg(path)
             .arg(mode.to_string())

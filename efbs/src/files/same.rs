@@ -18,15 +18,20 @@ pub fn refuse_same(input: &Path, output: Option<&Path>) -> Result<(), Failure> {
     let (Ok(incoming), Ok(outgoing)) = (about_input(input), outgoing) else {
         return Ok(());
     };
-    match is_same(&incoming, &outgoing) && can_be_lost(&incoming) {
-        true => Err(Failure::Told(format!(
-            "the output, {}, is the same file as the input, {}, which would be lost. Nothing was written; name another \
-             file for the output.",
-            output::name(output),
-            name(input)
-        ))),
-        false => Ok(()),
+    if !is_same(&incoming, &outgoing) || !can_be_lost(&incoming) {
+        return Ok(());
     }
+    let fate = match incoming.len() {
+        // As after "> A.efb", which the shell does first.
+        0 => "has been emptied before efbs began",
+        _ => "would be lost",
+    };
+    Err(Failure::Told(format!(
+        "the output, {}, is the same file as the input, {}, which {fate}. Nothing was written; name another file for the \
+         output.",
+        output::name(output),
+        name(input)
+    )))
 }
 
 fn about_input(path: &Path) -> io::Result<Metadata> {
