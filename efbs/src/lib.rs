@@ -1,5 +1,7 @@
 //! Archives of the bank recorder read, shown and converted. The proved library decides every figure.
 
+#![forbid(unsafe_code)]
+
 pub mod amounts;
 pub mod archive;
 pub mod arguments;
