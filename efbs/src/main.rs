@@ -9,11 +9,11 @@ static BEFORE_MAIN: extern "C" fn() = standard::note_if_closed;
 
 fn main() -> ExitCode {
     let words: Vec<_> = std::env::args_os().skip(1).collect();
-    match words.split_first() {
-        Some((first, rest)) if first == partial::GUARD => {
-            partial::guard(rest);
+    match words.as_slice() {
+        [first, path, mode] if first == partial::GUARD => {
+            partial::guard(path, mode);
             ExitCode::SUCCESS
         }
-        _ => ExitCode::from(efbs::cli::run(&words)),
+        words => ExitCode::from(efbs::cli::run(words)),
     }
 }

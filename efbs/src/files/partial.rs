@@ -2,7 +2,7 @@
 //! the program is killed: another process, its guard, makes the file and waits for the end of whoever writes it.
 
 use super::output::folder;
-use std::ffi::{OsStr, OsString};
+use std::ffi::OsStr;
 use std::fs::{self, File, Metadata};
 use std::io::{self, BufRead, BufReader, ErrorKind, Read, Write};
 use std::os::unix::fs::{fchown, MetadataExt, OpenOptionsExt, PermissionsExt};
@@ -94,7 +94,8 @@ impl Guard {
             .stdout(Stdio::piped())
             .stderr(Stdio::null())
             .process_group(0)
-            .spawn()?;
+            .spawn()
+            .map_err(|error| io::Error::other(format!("its guard does not start: {error}")))?;
         let answer = child.stdout.take();
         let guard = Guard(child);
         let mut line = String::new();
@@ -104,7 +105,7 @@ impl Guard {
         match line.trim().parse() {
             Ok(0) => Ok(guard),
             Ok(error) => Err(io::Error::from_raw_os_error(error)),
-            Err(_) => Err(io::Error::other("its guard did not start")),
+            Err(_) => Err(io::Error::other("its guard ended early")),
         }
     }
 }
@@ -118,10 +119,7 @@ impl Drop for Guard {
 
 /// The guard's own work: makes the file, answers 0 or the system's number for why not, and as soon as its input ends
 /// removes the file if it has not been renamed. It removes nothing but what it made.
-pub fn guard(words: &[OsString]) {
-    let [path, mode] = words else {
-        return;
-    };
+pub fn guard(path: &OsStr, mode: &OsStr) {
     let mode = mode.to_str().and_then(|mode| mode.parse().ok());
     let made = make(path, mode.unwrap_or(NEW_FILE));
     let number = match &made {
