@@ -140,6 +140,12 @@ def guard(checks, folder):
     checks.that((status, out) == (0, b"17\n") and os.path.exists(folder.file), f"a file that is there is left: {out}")
     status, out, _ = run("guard-part", f"{folder.path}/new", str(0o600))
     checks.that((status, out) == (0, b"0\n") and not folder.parts(), f"a file of its own is removed: {out}")
+    guarding = start("guard-part", f"{folder.path}/new", str(0o600), stdout=subprocess.PIPE)
+    checks.that(guarding.stdout.readline() == b"0\n" and folder.parts() == ["new"], "a file is made")
+    os.rename(write(f"{folder.path}/other", OLD), f"{folder.path}/new")
+    guarding.communicate()
+    checks.that(folder.parts() == ["new"], "another file that has come by the same name is left")
+    os.remove(f"{folder.path}/new")
 
 
 def several_at_once(checks, folder, sample):
