@@ -3,6 +3,11 @@
 use crate::entry::Kind;
 use nedrulov::ENTRY_BYTES;
 
+/// The first bytes of every archive.
+pub const OPENING: &[u8] = b"EFB1";
+/// And a section ends with each month's closing.
+pub const MOST_SECTIONS: usize = 1_200;
+
 const HEADER: usize = 8;
 const PAIR: usize = 8;
 
@@ -34,8 +39,42 @@ pub fn check(archive: &[u8]) -> Result<(), Refusal> {
 /// What follows the directory of an archive that the library accepts: its list.
 fn list(archive: &[u8]) -> Result<&[u8], Refusal> {
     check(archive)?;
+    Ok(&archive[directory_end(archive)..])
+}
+
+/// Where the directory ends, of an archive that has a header.
+fn directory_end(archive: &[u8]) -> usize {
     let count = [archive[4], archive[5]];
-    Ok(&archive[HEADER + PAIR * usize::from(u16::from_le_bytes(count))..])
+    HEADER + PAIR * usize::from(u16::from_le_bytes(count))
+}
+
+/// How long an archive has to be, as far as it is there to tell.
+#[derive(Clone, Copy, Debug, PartialEq, Eq)]
+pub enum Length {
+    Exactly(u64),
+    /// Header or directory are cut off themselves.
+    AtLeast(u64),
+    /// It would have more sections than there can be.
+    Unknown,
+}
+
+pub fn length_by_directory(archive: &[u8]) -> Length {
+    if archive.len() < HEADER {
+        return Length::AtLeast(HEADER as u64);
+    }
+    let end = directory_end(archive);
+    match archive.get(end - PAIR..end) {
+        _ if end > HEADER + PAIR * MOST_SECTIONS => Length::Unknown,
+        None => Length::AtLeast(end as u64),
+        Some(_) if end == HEADER => Length::Exactly(end as u64),
+        // The last section's offset and length.
+        Some(pair) => Length::Exactly(
+            pair.chunks_exact(PAIR / 2)
+                .filter_map(|number| number.try_into().ok())
+                .map(|number| u64::from(u32::from_le_bytes(number)))
+                .sum(),
+        ),
+    }
 }
 
 /// The archive of a list.
@@ -43,7 +82,12 @@ pub fn of_list(list: &[u8]) -> Result<Vec<u8>, Refusal> {
     let closes_month = |entry: &&[u8]| entry[0] == Kind::CloseMonth as u8;
     let months = list.chunks(ENTRY_BYTES).filter(closes_month).count();
     // One section more than months, for what follows the last closing.
-    let mut archive = vec![0; HEADER + PAIR * (months + 1) + list.len()];
+    let length = HEADER + PAIR * (months + 1) + list.len();
+    let mut archive = Vec::new();
+    // Where there is no memory for it the library finds too little room.
+    if archive.try_reserve_exact(length).is_ok() {
+        archive.resize(length, 0);
+    }
     let written = nedrulov::write(list, &mut archive);
     archive.truncate(written.length);
     match written.number {

@@ -1,9 +1,11 @@
 //! A command's operands and options, taken from the words after its name.
 
+use crate::echo;
 use crate::entry::Day;
 use crate::failure::Failure;
 use nedrulov::ACCOUNTS;
-use std::ffi::OsString;
+use std::ffi::{OsStr, OsString};
+use std::os::unix::ffi::OsStrExt;
 use std::path::Path;
 
 /// An option with its name and, if it takes one, the name of its value.
@@ -11,6 +13,18 @@ pub struct Opt {
     pub name: &'static str,
     pub value: Option<&'static str>,
     pub required: bool,
+}
+
+/// An option's name and the value joined to it by =. A value may be a file name of any bytes.
+fn divided(word: &OsStr) -> (&OsStr, Option<OsString>) {
+    let bytes = word.as_bytes();
+    match bytes.iter().position(|byte| *byte == b'=') {
+        Some(end) => {
+            let [name, value] = [&bytes[..end], &bytes[end + 1..]].map(OsStr::from_bytes);
+            (name, Some(value.to_os_string()))
+        }
+        None => (word, None),
+    }
 }
 
 #[derive(Default)]
@@ -36,7 +50,7 @@ impl Arguments {
             } else if text == "--" {
                 ended = true;
             } else {
-                found.add_option(&text, &mut words, options)?;
+                found.add_option(word, &mut words, options)?;
             }
         }
         found.complete(operands, options)
@@ -44,20 +58,18 @@ impl Arguments {
 
     fn add_option<'a>(
         &mut self,
-        text: &str,
+        word: &OsStr,
         words: &mut impl Iterator<Item = &'a OsString>,
         options: &'static [Opt],
     ) -> Result<(), Failure> {
-        let (name, joined) = match text.split_once('=') {
-            Some((name, value)) => (name, Some(OsString::from(value))),
-            None => (text, None),
-        };
-        let unknown = || Failure::Usage(format!("unknown option {name}"));
+        let (name, joined) = divided(word);
+        let unknown = || Failure::Usage(format!("unknown option {}", echo::bare(name)));
         let option = options
             .iter()
             .find(|known| known.name == name)
             .ok_or_else(unknown)?;
-        if self.options.iter().any(|(known, _)| *known == name) {
+        let name = option.name;
+        if self.has(name) {
             return Err(Failure::Usage(format!("{name} is given twice")));
         }
         let value = match (option.value, joined) {
@@ -69,14 +81,14 @@ impl Arguments {
                 words.next().cloned().ok_or_else(missing)?
             }
         };
-        self.options.push((option.name, value));
+        self.options.push((name, value));
         Ok(())
     }
 
     fn complete(self, operands: &[&str], options: &[Opt]) -> Result<Arguments, Failure> {
         if let Some(extra) = self.operands.get(operands.len()) {
-            let extra = extra.to_string_lossy();
-            return Err(Failure::Usage(format!("\"{extra}\" is one word too many")));
+            let extra = echo::word(extra);
+            return Err(Failure::Usage(format!("{extra} is one word too many")));
         }
         if let Some(missing) = operands.get(self.operands.len()) {
             return Err(Failure::Usage(format!("{missing} is missing")));
@@ -116,7 +128,8 @@ impl Arguments {
         let text = self.operands[operand].to_string_lossy();
         let digits = text.len() == 4 && text.bytes().all(|b| b.is_ascii_digit());
         let year = text.parse().ok().filter(|_| digits);
-        year.ok_or_else(|| Failure::Usage(format!("\"{text}\" is no year, as 2026")))
+        let wrong = || echo::word(&self.operands[operand]);
+        year.ok_or_else(|| Failure::Usage(format!("{} is no year, as 2026", wrong())))
     }
 
     fn value(&self, option: &str) -> Option<&OsString> {
@@ -130,13 +143,14 @@ impl Arguments {
         expected: &str,
         read: impl Fn(&str) -> Option<T>,
     ) -> Result<Option<T>, Failure> {
-        let Some(text) = self.value(option).map(|value| value.to_string_lossy()) else {
+        let Some(text) = self.value(option) else {
             return Ok(None);
         };
-        match read(&text) {
+        match read(&text.to_string_lossy()) {
             Some(value) => Ok(Some(value)),
             None => Err(Failure::Usage(format!(
-                "{option} needs {expected}, not \"{text}\""
+                "{option} needs {expected}, not {}",
+                echo::word(text)
             ))),
         }
     }

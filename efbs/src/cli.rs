@@ -3,6 +3,7 @@
 use crate::archive::Refusal;
 use crate::arguments::{Arguments, Opt};
 use crate::command::{Command, COMMANDS};
+use crate::echo;
 use crate::failure::Failure;
 use crate::files;
 use crate::words::refusal;
@@ -40,14 +41,12 @@ fn run_command(command: &Command, words: &[OsString]) -> u8 {
         Ok(arguments) => arguments,
         Err(failure) => return tell(command, "", failure),
     };
-    let write = |out: &mut dyn Write| (command.run)(&arguments, out);
-    let done = match arguments.output() {
-        Some(path) => files::to_file(path, write),
-        None => files::to_standard_output(write),
-    };
+    let (input, output) = (arguments.path(0), arguments.output());
+    let write = |out: files::Writer| (command.run)(&arguments, out);
+    let done = files::refuse_same(input, output).and_then(|()| files::write(output, write));
     match done {
         Ok(()) => DONE,
-        Err(failure) => tell(command, &arguments.path(0).to_string_lossy(), failure),
+        Err(failure) => tell(command, &files::name(input), failure),
     }
 }
 
@@ -55,7 +54,7 @@ fn run_command(command: &Command, words: &[OsString]) -> u8 {
 fn tell(command: &Command, file: &str, failure: Failure) -> u8 {
     match failure {
         Failure::Usage(message) => wrong_use(&message, &format!("efbs {} --help", command.name)),
-        Failure::Refused(refusal) => fail(&refused(file, refusal)),
+        Failure::Refused { refusal, next } => fail(&refused(file, refusal, &next)),
         Failure::Told(message) => fail(&message),
         Failure::Output(error) => unwritten(error),
     }
@@ -65,6 +64,7 @@ fn unwritten(error: io::Error) -> u8 {
     match error.kind() {
         // Whoever reads has seen enough.
         ErrorKind::BrokenPipe => DONE,
+        ErrorKind::NotConnected => fail(&format!("{error}, so nothing can be written to it.")),
         _ => fail(&format!(
             "the output cannot be written: {error}. Check that there is room."
         )),
@@ -72,15 +72,10 @@ fn unwritten(error: io::Error) -> u8 {
 }
 
 /// A refusal in words, and what to do next.
-fn refused(name: &str, Refusal { number, index }: Refusal) -> String {
+fn refused(name: &str, Refusal { number, index }: Refusal, next: &str) -> String {
     let place = match number {
         8 | 9 | 11 => String::new(),
         _ => format!(" at entry {index}"),
-    };
-    let next = match number {
-        8 => "Check that it is an archive: it begins with EFB1. A text becomes one by efbs pack.",
-        11 => "Begin another archive.",
-        _ => "It is damaged: take another copy of it.",
     };
     format!(
         "{name} is refused with {number}{place}: {}. {next}",
@@ -89,27 +84,32 @@ fn refused(name: &str, Refusal { number, index }: Refusal) -> String {
 }
 
 fn no_command(name: &OsStr) -> u8 {
-    let message = format!("there is no command \"{}\"", name.to_string_lossy());
+    let message = format!("there is no command {}", echo::word(name));
     wrong_use(&message, "efbs help")
 }
 
 fn wrong_use(message: &str, help: &str) -> u8 {
-    eprintln!("efbs: {message}. Try: {help}");
+    complain(&format!("{message}. Try: {help}"));
     WRONG_USE
 }
 
 fn fail(message: &str) -> u8 {
-    eprintln!("efbs: {message}");
+    complain(message);
     FAILED
+}
+
+fn complain(message: &str) {
+    // Where nobody can be told, the exit status still tells.
+    let _ = writeln!(io::stderr(), "efbs: {message}");
 }
 
 /// Help goes to standard output.
 fn say(text: &str) -> u8 {
-    let mut out = io::stdout().lock();
-    match out.write_all(text.as_bytes()).and_then(|()| out.flush()) {
-        Ok(()) => DONE,
-        Err(error) => unwritten(error),
-    }
+    let said = files::standard::output().and_then(|mut out| {
+        out.write_all(text.as_bytes())?;
+        out.flush()
+    });
+    said.map_or_else(unwritten, |()| DONE)
 }
 
 fn overview() -> String {
@@ -120,6 +120,7 @@ fn overview() -> String {
     }
     text + "
 Gas is in Dth and money in dollars unless said otherwise. A.efb is an archive, N an account from 0 to 15.
+As a file - is standard input, and after -o standard output. A file after -o is replaced whole or not at all.
 Exit status: 0 done; 1 refused, not readable or not in agreement; 2 asked for in a wrong way.
 efbs COMMAND --help tells more of a command.
 "

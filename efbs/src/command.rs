@@ -8,6 +8,7 @@ use crate::pages;
 use crate::report::report;
 use crate::text;
 use std::io::{BufReader, Write};
+use std::path::Path;
 
 pub struct Command {
     pub name: &'static str,
@@ -127,9 +128,9 @@ const SHEET: Command = Command {
     options: &[flag("--csv")],
     about: "banks after each month of the gas year that begins in April of YEAR",
     help: "\
-In Dth, a row for every account that the archive ever enrolls. 0.00 also stands where a month was not closed or an
-account not yet open.
-  --csv   plain numbers separated by commas, below a line of names",
+In Dth, a row for every account that the archive ever enrolls. A dash stands where a month is not closed or an account
+not yet enrolled.
+  --csv   plain numbers separated by commas, below a line of names; an empty cell where the page has a dash",
     run: sheet,
 };
 
@@ -144,32 +145,52 @@ const REPORT: Command = Command {
 
 fn pack(arguments: &Arguments, out: &mut dyn Write) -> Result<(), Failure> {
     let path = arguments.path(0);
-    let list = text::read(BufReader::new(files::open(path)?)).map_err(|fault| match fault {
-        text::Fault::Unreadable(error) => files::unreadable(path, error),
-        wrong => Failure::Told(format!(
-            "{}, {wrong}. Mend the line; docs/TEXT-FORMAT.md has the kinds and their ranges.",
-            path.display()
-        )),
-    })?;
+    let text = BufReader::new(files::open(path)?);
+    let list = text::read(text).map_err(|fault| unpackable(path, fault))?;
     Ok(out.write_all(&archive::of_list(&list)?)?)
 }
 
-fn unpack(arguments: &Arguments, out: &mut dyn Write) -> Result<(), Failure> {
+/// Why a text makes no archive, and what to do next.
+fn unpackable(path: &Path, fault: text::Fault) -> Failure {
+    let name = files::name(path);
+    let next = match fault {
+        text::Fault::Unreadable(error) => return files::unreadable(path, error),
+        text::Fault::Archive => {
+            let next = "pack makes one of a text, and unpack a text of it";
+            return Failure::Told(format!("{name} is an archive already: {next}."));
+        }
+        text::Fault::Entry { number: 11, .. } => "Begin another archive.",
+        _ => "Mend the line; docs/TEXT-FORMAT.md has the kinds and their ranges.",
+    };
+    Failure::Told(format!("{name}, {fault}. {next}"))
+}
+
+/// Reads the archive that a command is about and shows it; a refusal is told with what the archive looks like.
+fn of_archive(
+    arguments: &Arguments,
+    show: impl FnOnce(&[u8]) -> Result<(), Failure>,
+) -> Result<(), Failure> {
     let archive = read_archive(arguments.path(0))?;
-    let list = entries(&archive)?;
-    Ok(text::write(list, out)?)
+    show(&archive).map_err(|failure| failure.looking_at(&archive))
+}
+
+fn unpack(arguments: &Arguments, out: &mut dyn Write) -> Result<(), Failure> {
+    of_archive(arguments, |archive| {
+        Ok(text::write(entries(archive)?, out)?)
+    })
 }
 
 fn panel(arguments: &Arguments, out: &mut dyn Write) -> Result<(), Failure> {
-    let archive = read_archive(arguments.path(0))?;
-    let figures = nedrulov::figures(&archive);
-    let (number, index) = (figures.number, figures.index);
-    if number != 0 {
-        writeln!(out, "archive {number} {index}")?;
-        return Err(Refusal { number, index }.into());
-    }
-    let (accepted, refused) = (figures.accepted, figures.refused);
-    Ok(writeln!(out, "{accepted} {refused} {}", figures.figure)?)
+    of_archive(arguments, |archive| {
+        let figures = nedrulov::figures(archive);
+        let (number, index) = (figures.number, figures.index);
+        if number != 0 {
+            writeln!(out, "archive {number} {index}")?;
+            return Err(Refusal { number, index }.into());
+        }
+        let (accepted, refused) = (figures.accepted, figures.refused);
+        Ok(writeln!(out, "{accepted} {refused} {}", figures.figure)?)
+    })
 }
 
 fn log(arguments: &Arguments, out: &mut dyn Write) -> Result<(), Failure> {
@@ -177,26 +198,30 @@ fn log(arguments: &Arguments, out: &mut dyn Write) -> Result<(), Failure> {
         account: arguments.account()?,
         refused: arguments.has("--refused"),
     };
-    pages::log::write(&read_archive(arguments.path(0))?, choice, out)
+    of_archive(arguments, |archive| pages::log::write(archive, choice, out))
 }
 
 fn statement(arguments: &Arguments, out: &mut dyn Write) -> Result<(), Failure> {
     let (account, until) = (arguments.account()?, arguments.until()?);
-    pages::statement::write(&read_archive(arguments.path(0))?, account, until, out)
+    of_archive(arguments, |archive| {
+        pages::statement::write(archive, account, until, out)
+    })
 }
 
 fn journal(arguments: &Arguments, out: &mut dyn Write) -> Result<(), Failure> {
-    pages::journal::write(&read_archive(arguments.path(0))?, out)
+    of_archive(arguments, |archive| pages::journal::write(archive, out))
 }
 
 fn sheet(arguments: &Arguments, out: &mut dyn Write) -> Result<(), Failure> {
-    let year = arguments.year(1)?;
-    let archive = read_archive(arguments.path(0))?;
-    pages::sheet::write(&archive, year, arguments.has("--csv"), out)
+    let (year, csv) = (arguments.year(1)?, arguments.has("--csv"));
+    of_archive(arguments, |archive| {
+        pages::sheet::write(archive, year, csv, out)
+    })
 }
 
 fn write_report(arguments: &Arguments, out: &mut dyn Write) -> Result<(), Failure> {
     let year = arguments.year(1)?;
-    let page = report(&read_archive(arguments.path(0))?, year)?;
-    Ok(out.write_all(page.as_bytes())?)
+    of_archive(arguments, |archive| {
+        Ok(out.write_all(report(archive, year)?.as_bytes())?)
+    })
 }

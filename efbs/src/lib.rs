@@ -1,11 +1,15 @@
 //! Archives of the bank recorder read, shown and converted. The proved library decides every figure.
 
+#![forbid(unsafe_code)]
+
 pub mod amounts;
 pub mod archive;
 pub mod arguments;
 pub mod calendar;
 pub mod cli;
 pub mod command;
+pub mod diagnosis;
+pub mod echo;
 pub mod entry;
 pub mod failure;
 pub mod files;
@@ -18,3 +22,4 @@ pub mod shown;
 pub mod statement;
 pub mod text;
 pub mod words;
+pub mod year_sheet;

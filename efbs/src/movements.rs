@@ -68,8 +68,12 @@ impl Movements {
         }
     }
 
+    pub fn is_enrolled(&self, account: usize) -> bool {
+        self.enrolled[account]
+    }
+
     pub fn enrolled(&self) -> impl Iterator<Item = usize> + '_ {
-        (0..ACCOUNTS).filter(|account| self.enrolled[*account])
+        (0..ACCOUNTS).filter(|account| self.is_enrolled(*account))
     }
 
     /// Account and mills of each bill that the step brings: one for every enrolled account as a month closes.

@@ -20,21 +20,23 @@ mod year_sheet;
 use crate::archive::Refusal;
 use crate::replay::replay;
 use crate::statement::Sums;
+use crate::year_sheet::OpenAtClosings;
 use gas_year::GasYear;
 
 /// The page of the gas year from April of `year` to March of the next.
 pub fn report(archive: &[u8], year: u16) -> Result<String, Refusal> {
     let mut gas_year = GasYear::new(year);
     let mut sums = Sums::default();
+    let mut closings = OpenAtClosings::new(year);
     let ledger = replay(archive, |step| {
         gas_year.add(step);
+        closings.add(step);
         sums.add(step);
     })?;
-    let sheet = nedrulov::year_sheet(archive, year.into());
     let parts = [
-        page::panel(&gas_year, &ledger),
+        page::panel(&gas_year),
         suppliers::suppliers(&gas_year),
-        year_sheet::year_sheet(&gas_year, &sheet),
+        year_sheet::year_sheet(&gas_year, &closings.cells(archive)),
         statements::statements(&gas_year, &sums.statements(&ledger)),
         page::foot(),
     ];

@@ -1,7 +1,7 @@
 //! The statement of a supplier: its bank, its debt and its violation days, added up from entries and answers.
 
 use crate::archive::Refusal;
-use crate::entry::Day;
+use crate::entry::{Day, Kind};
 use crate::movements::{Cause, Movement, Movements};
 use crate::replay::{replay, Step};
 use crate::words::violation_list;
@@ -98,6 +98,8 @@ impl Statement {
 pub struct Books {
     pub statements: Vec<Statement>,
     pub ledger: Ledger,
+    /// When the whole archive enrols each account, if it does.
+    pub enrolments: [Option<Day>; ACCOUNTS],
 }
 
 /// Of every account that was ever enrolled, in order; `until`: entries dated up to and with that day.
@@ -108,7 +110,11 @@ pub fn statements(archive: &[u8], until: Option<Day>) -> Result<Vec<Statement>, 
 pub fn books(archive: &[u8], until: Option<Day>) -> Result<Books, Refusal> {
     let mut sums = Sums::default();
     let mut at_day: Option<Ledger> = None;
+    let mut enrolments = [None; ACCOUNTS];
     let last = replay(archive, |step| {
+        if step.accepted() && step.entry.kind == Kind::Enrol {
+            enrolments[usize::from(step.entry.a)] = Some(step.entry.date);
+        }
         // Accepted entries stand in the order of their dates, and refused ones move nothing.
         let later = step.accepted() && until.is_some_and(|day| step.entry.date > day);
         if later && at_day.is_none() {
@@ -122,6 +128,7 @@ pub fn books(archive: &[u8], until: Option<Day>) -> Result<Books, Refusal> {
     Ok(Books {
         statements: sums.statements(&ledger),
         ledger,
+        enrolments,
     })
 }
 

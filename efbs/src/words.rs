@@ -82,8 +82,8 @@ mod tests {
     use super::*;
     use std::collections::HashSet;
 
-    /// 1, 12 and 13 come of no command: lists are made of whole entries, output is made as large as it must be, and no
-    /// section is asked for by its number. 20 comes of no list of postings. Their words are held here.
+    /// 1 and 13 come of no command: lists are made of whole entries, and no section is asked for by its number. 12 comes
+    /// where memory is short, 20 of no list of postings. Their words are held here.
     #[test]
     fn every_number_has_words_of_its_own() {
         let words: Vec<_> = (1..=13).chain(20..=29).map(refusal).collect();

@@ -11,7 +11,7 @@ from checks import Checks, run, write
 
 COMMANDS = (
     ["panel", "FILE"], ["unpack", "FILE"], ["log", "FILE"], ["log", "FILE", "--account", "0", "--refused"], ["statement", "FILE"],
-    ["journal", "FILE"], ["sheet", "FILE", "2026"], ["report", "FILE", "2026"], ["pack", "FILE", "-o", "FILE.out"],
+    ["journal", "FILE"], ["sheet", "FILE", "2026"], ["report", "FILE", "2026"], ["pack", "FILE", "-o", "-"],
 )
 PREFIXES, FLIPS, NOISES = 200, 150, 50
 
@@ -49,8 +49,6 @@ def put(folder, number, content):
     path = write(f"{folder}/damaged-{number}", content)
     statuses = [run(*(word.replace("FILE", path) for word in command))[0] for command in COMMANDS]
     os.remove(path)
-    if os.path.exists(f"{path}.out"):
-        os.remove(f"{path}.out")
     return statuses
 
 

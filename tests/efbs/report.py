@@ -3,7 +3,7 @@
 import random
 import re
 import sys
-from datetime import date
+from datetime import date, timedelta
 from html.parser import HTMLParser
 
 import entries
@@ -125,6 +125,33 @@ def compare(checks, name, archive, year):
     return sum(map(len, told.values()))
 
 
+def headlines(checks, folder):
+    """Of an archive of two gas years each has its own: what the panel showed as the year ended, with that day."""
+    first = entries.years(date(2026, 4, 1), date(2027, 3, 31), 2, random.Random(2))
+    both = entries.years(date(2026, 4, 1), date(2028, 2, 14), 2, random.Random(2))
+    checks.that(both[:len(first)] == first, "the second list goes on where the first ends")
+    paths = [write(f"{folder}/{name}.efb", entries.archive(made)) for name, made in (("first", first), ("both", both))]
+    counts = (len(first), len(both) - len(first))
+    for year, path, day, count in zip((2026, 2027), paths, ("31 March 2027", "14 February 2028"), counts):
+        text = run("report", paths[1], str(year))[1].decode()
+        figure, panel = Page(text).figure, run("panel", path)[1].split()[2]
+        checks.that(hundredths(figure) == int(panel), f"the headline of {year}, {figure}")
+        checks.that(f">{day}</span></p></div>" in text, f"the headline of {year} is of {day}")
+        checks.that(f"postings of the year accepted</dt><dd>{count:,}</dd>" in text, f"{count} postings in {year}")
+
+
+def later_enrolment(checks, folder):
+    """Months that are closed before an account is enrolled have no bank of it."""
+    days = [date(2026, 4, 1) + timedelta(days=number) for number in range(365)]
+    terms, enrolment = entries.beginning(date(2027, 4, 1))
+    made = [entries.beginning(days[0])[0], *map(entries.closing, days), terms, enrolment]
+    path = write(f"{folder}/later.efb", entries.archive(made))
+    checks.that(run("panel", path)[1].split()[:2] == [b"368", b"0"], "every entry is accepted")
+    page, cells = (run("sheet", path, "2026", *words)[1].decode() for words in ((), ("--csv",)))
+    checks.that("no month of an enrolled account" in page, f"a sheet before the enrolment: {page}")
+    checks.that(cells.endswith("\n0" + 12 * "," + "\n"), f"the same as CSV: {cells}")
+
+
 def parser_notices(checks, page):
     """The parser itself: each of these changes is wrong."""
     for old, new in (
@@ -141,6 +168,8 @@ def main():
     days = compare(checks, "the sample", sample, 2026)
     checks.that(days == 8, "violation days of the sample")
     parser_notices(checks, run("report", sample, "2026")[1].decode())
+    headlines(checks, folder)
+    later_enrolment(checks, folder)
     # Sixteen suppliers with more violation days than a chart has room to flag.
     made = entries.years(date(2026, 4, 1), date(2027, 3, 31), 16, random.Random(16))
     days = compare(checks, "sixteen suppliers", write(f"{folder}/sixteen.efb", entries.archive(made)), 2026)

@@ -1,6 +1,6 @@
 //! The log: each entry in words with its answer.
 
-use super::show;
+use super::{never_enrolled, show};
 use crate::entry::{Entry, Kind};
 use crate::failure::Failure;
 use crate::form::Value;
@@ -22,14 +22,37 @@ pub struct Choice {
 }
 
 impl Choice {
-    fn shows(&self, step: &Step) -> bool {
-        let concerned = |account| step.entry.kind.is_closing() || uses(&step.entry, account);
+    fn shows(&self, step: &Step, movements: &Movements) -> bool {
+        let concerned = |account| match step.entry.kind.is_closing() {
+            true => movements.is_enrolled(account),
+            false => uses(&step.entry, account),
+        };
         self.account.is_none_or(concerned) && !(self.refused && step.accepted())
     }
 
     fn accounts(&self) -> std::ops::Range<usize> {
         self.account
             .map_or(0..ACCOUNTS, |account| account..account + 1)
+    }
+}
+
+/// Entries counted by their answer.
+#[derive(Default)]
+struct Tally {
+    accepted: u64,
+    refused: u64,
+}
+
+impl Tally {
+    fn add(&mut self, step: &Step) {
+        match step.accepted() {
+            true => self.accepted += 1,
+            false => self.refused += 1,
+        }
+    }
+
+    fn all(&self) -> u64 {
+        self.accepted + self.refused
     }
 }
 
@@ -41,7 +64,7 @@ fn uses(entry: &Entry, account: usize) -> bool {
 
 pub fn write(archive: &[u8], choice: Choice, out: &mut dyn Write) -> Result<(), Failure> {
     let mut movements = Movements::default();
-    let (mut accepted, mut refused) = (0u64, 0u64);
+    let (mut whole, mut shown) = (Tally::default(), Tally::default());
     let mut log = Log {
         choice,
         width: (archive.len() / ENTRY_BYTES).to_string().len(),
@@ -49,18 +72,42 @@ pub fn write(archive: &[u8], choice: Choice, out: &mut dyn Write) -> Result<(), 
     };
     show(archive, |step| {
         let moved = movements.of(step);
-        match step.accepted() {
-            true => accepted += 1,
-            false => refused += 1,
+        whole.add(step);
+        if !choice.shows(step, &movements) {
+            return Ok(());
         }
-        match choice.shows(step) {
-            true => log.write_step(step, &moved),
-            false => Ok(()),
-        }
+        shown.add(step);
+        log.write_step(step, &moved)
     })?;
-    let [all, accepted, refused] = [accepted + refused, accepted, refused].map(shown::whole);
-    writeln!(out, "{all} entries: {accepted} accepted, {refused} refused")?;
-    Ok(())
+    let stranger = choice
+        .account
+        .filter(|account| !movements.is_enrolled(*account));
+    if stranger.is_none() || shown.all() > 0 {
+        write_totals(&whole, &shown, choice, out)?;
+    }
+    match stranger {
+        Some(account) => Err(never_enrolled(account)),
+        None => Ok(()),
+    }
+}
+
+/// Of what is shown, and beside it how many entries there are.
+fn write_totals(
+    whole: &Tally,
+    shown: &Tally,
+    choice: Choice,
+    out: &mut dyn Write,
+) -> io::Result<()> {
+    let [all, part] = [whole, shown].map(|tally| shown::whole(tally.all()));
+    let [accepted, refused] = [shown.accepted, shown.refused].map(shown::whole);
+    let entries = match choice {
+        Choice {
+            account: None,
+            refused: false,
+        } => format!("{all} entries"),
+        _ => format!("{part} of {all} entries shown"),
+    };
+    writeln!(out, "{entries}: {accepted} accepted, {refused} refused")
 }
 
 struct Log<'a> {

@@ -22,3 +22,9 @@ fn show(archive: &[u8], mut write: impl FnMut(&Step) -> io::Result<()>) -> Resul
         ControlFlow::Break(error) => Err(error.into()),
     }
 }
+
+fn never_enrolled(account: usize) -> Failure {
+    Failure::Told(format!(
+        "account {account} is never enrolled in this archive. Without --account every supplier is shown."
+    ))
+}

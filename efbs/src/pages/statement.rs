@@ -1,5 +1,6 @@
 //! Statements of account for suppliers, with the ledger's own figures beside the sums.
 
+use super::never_enrolled;
 use crate::amounts::{gas, grouped, money};
 use crate::entry::Day;
 use crate::failure::Failure;
@@ -16,7 +17,7 @@ pub fn write(
     let books = books(archive, until)?;
     let head = until.map(|day| format!("Entries dated up to and with {day}.\n"));
     let (page, agree) = match account {
-        Some(account) => one(&books, account)?,
+        Some(account) => one(&books, account, until)?,
         None => all(&books),
     };
     let page = head.unwrap_or_default() + &page;
@@ -31,12 +32,13 @@ pub fn write(
 }
 
 /// A supplier's page, and whether it agrees with the ledger.
-fn one(books: &Books, account: usize) -> Result<(String, bool), Failure> {
+fn one(books: &Books, account: usize, until: Option<Day>) -> Result<(String, bool), Failure> {
     let found = books.statements.iter().find(|s| s.account == account);
-    let missing = || {
-        Failure::Told(format!(
-            "account {account} is not enrolled. Without --account all that are enrolled are shown."
-        ))
+    let missing = || match (books.enrolments[account], until) {
+        (Some(enrolled), Some(until)) => Failure::Told(format!(
+            "account {account} is not yet enrolled on {until}; it is enrolled on {enrolled}."
+        )),
+        _ => never_enrolled(account),
     };
     let statement = found.ok_or_else(missing)?;
     Ok((page(statement), statement.agrees()))
@@ -129,9 +131,13 @@ mod tests {
             bank: 1_000,
             ..Statement::default()
         };
+        let mut enrolments = [None; nedrulov::ACCOUNTS];
+        enrolments[2] = "2026-04-01".parse().ok();
+        enrolments[4] = "2026-05-01".parse().ok();
         Books {
             statements: vec![statement],
             ledger,
+            enrolments,
         }
     }
 
@@ -160,7 +166,11 @@ mod tests {
 
     #[test]
     fn accounts_that_are_not_enrolled() {
-        assert!(one(&books(), 2).is_ok_and(|(_, agree)| agree));
-        assert!(one(&books(), 3).is_err());
+        let until = "2026-04-30".parse().ok();
+        assert!(one(&books(), 2, until).is_ok_and(|(_, agree)| agree));
+        for (account, told) in [(3, "never enrolled"), (4, "it is enrolled on 2026-05-01")] {
+            let failed = one(&books(), account, until);
+            assert!(matches!(failed, Err(Failure::Told(why)) if why.contains(told)));
+        }
     }
 }

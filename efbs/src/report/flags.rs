@@ -1,5 +1,5 @@
-//! The words above a chart: a flag for each group of days with the same sign, placed in rows so that no flag covers
-//! another and no pole runs through a word.
+//! The words above a chart: a flag for each movement of gas and for each group of days with the same violations, placed
+//! in rows so that no flag covers another and no pole runs through a word.
 
 use super::gas_year::{BankDay, Course};
 use super::scale::{Scale, FLAG_ROW, WIDTH};
@@ -8,14 +8,13 @@ use crate::shown::gas;
 use crate::words::violation_list;
 
 const MOST_ROWS: usize = 4;
-const MOST_NAMES: usize = 4;
 /// Of a letter in a flag, in the chart's own measure; a generous mean.
 const LETTER: f64 = 6.6;
 /// From the pole to the first letter, and from the last letter to the next pole.
 const BEFORE_WORDS: f64 = 17.0;
 const AFTER_WORDS: f64 = 8.0;
 
-/// Adjoining days with the same sign.
+/// Adjoining days with exactly the same violations, or one day's movement.
 struct Group {
     sign: Sign,
     /// Offset of the first day in the year, where the pole stands.
@@ -55,24 +54,15 @@ impl Group {
         BEFORE_WORDS + self.text().chars().count() as f64 * LETTER + AFTER_WORDS
     }
 
-    fn take(&mut self, day: &BankDay, moved: i64) {
-        self.days += 1;
-        self.mask |= day.report.mask;
-        self.moved += moved;
+    fn goes_on_with(&self, day: &BankDay) -> bool {
+        let adjoins = self.first + self.days == day.offset;
+        adjoins && self.sign == Sign::Violation && self.mask == day.report.mask
     }
 }
 
 fn violation_names(mask: u64) -> String {
-    let list = violation_list(mask);
-    let mut names: Vec<String> = list
-        .iter()
-        .take(MOST_NAMES)
-        .map(|v| format!("V{v}"))
-        .collect();
-    if list.len() > MOST_NAMES {
-        names.push("…".to_string());
-    }
-    names.join(" ")
+    let names = violation_list(mask).into_iter().map(|v| format!("V{v}"));
+    names.collect::<Vec<_>>().join(" ")
 }
 
 /// The flags of a chart; none at all where they need too many rows or the last would run out of the drawing.
@@ -93,11 +83,8 @@ fn groups(sign: Sign, course: &Course) -> Vec<Group> {
         let Some(moved) = sign.moved(&day.report) else {
             continue;
         };
-        match groups
-            .last_mut()
-            .filter(|group| group.first + group.days == day.offset)
-        {
-            Some(group) => group.take(day, moved),
+        match groups.last_mut().filter(|group| group.goes_on_with(day)) {
+            Some(group) => group.days += 1,
             None => groups.push(Group {
                 sign,
                 first: day.offset,

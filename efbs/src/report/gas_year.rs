@@ -1,9 +1,9 @@
 //! What the accepted closings of one gas year showed, account by account.
 
 use crate::calendar::{day_of_gas_year, gas_month, gas_year_name, gas_year_of};
-use crate::entry::{Day, Kind};
+use crate::entry::{Day, Entry, Kind};
 use crate::replay::Step;
-use nedrulov::{band, Band, Report, ACCOUNTS, MONTHS};
+use nedrulov::{band, Band, Ledger, Report, ACCOUNTS, MONTHS};
 
 /// One account on one closed day.
 pub struct BankDay {
@@ -58,9 +58,24 @@ pub struct GasYear {
     pub totals: [Option<i64>; MONTHS],
     /// First and last date of an accepted posting in the whole archive.
     pub span: Option<(Day, Day)>,
-    /// Postings of the whole archive.
+    /// The year's last accepted posting.
+    pub last: Option<Last>,
+    /// Postings of the year.
     pub accepted: u64,
     pub refused: u64,
+}
+
+/// A posting and the ledger after it.
+pub struct Last {
+    pub entry: Entry,
+    pub ledger: Ledger,
+}
+
+impl Last {
+    /// Whether nothing of the gas year can follow.
+    pub fn ends_the_year(&self) -> bool {
+        self.entry.kind == Kind::CloseMonth && self.entry.date.month == 3
+    }
 }
 
 impl GasYear {
@@ -74,20 +89,32 @@ impl GasYear {
             accounts: std::array::from_fn(course),
             totals: [None; MONTHS],
             span: None,
+            last: None,
             accepted: 0,
             refused: 0,
         }
     }
 
     pub fn add(&mut self, step: &Step) {
+        let of_year = gas_year_of(posting_day(step)) == self.year;
         if !step.accepted() {
-            self.refused += 1;
+            self.refused += u64::from(of_year);
             return;
         }
-        self.accepted += 1;
         let date = step.entry.date;
         self.span = Some((self.span.map_or(date, |(first, _)| first), date));
-        if step.entry.kind.is_closing() && gas_year_of(date) == self.year {
+        if of_year {
+            self.add_accepted(step);
+        }
+    }
+
+    fn add_accepted(&mut self, step: &Step) {
+        self.accepted += 1;
+        self.last = Some(Last {
+            entry: step.entry,
+            ledger: *step.after,
+        });
+        if step.entry.kind.is_closing() {
             self.add_closing(step);
         }
     }
@@ -133,5 +160,19 @@ impl GasYear {
     pub fn last_closing(&self) -> Option<Day> {
         let course = self.courses().next()?;
         course.days.last().map(|day| day.date)
+    }
+}
+
+/// The day on which an entry was posted: a refused one may bear any date, but the ledger has its own as soon as it has
+/// begun.
+fn posting_day(step: &Step) -> Day {
+    let ledger = step.before;
+    match step.accepted() || !ledger.begun {
+        true => step.entry.date,
+        false => Day {
+            year: ledger.date.year as u16,
+            month: ledger.date.month as u8,
+            day: ledger.date.day as u8,
+        },
     }
 }

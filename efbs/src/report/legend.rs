@@ -19,7 +19,8 @@ pub fn legend() -> String {
         .map(|v| format!("<li><b>V{v}</b> {}</li>\n", escape(violation(v))))
         .collect();
     format!(
-        "<div class=\"legend\">\n<ul class=\"keys\">\n{}{}{}</ul>\n<ul class=\"names\">\n{names}</ul>\n</div>\n",
+        "<div class=\"legend\">\n<ul class=\"keys\">\n{}{}{}</ul>\n<ul class=\"names\">\n{names}\
+         <li><b>×2</b> the same on two days running</li>\n</ul>\n</div>\n",
         key("bank after the day’s closing", "<path class=\"bank\" d=\"M1 8H33\"/>"),
         key(
             "month’s minimum to maximum",

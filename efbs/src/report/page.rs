@@ -1,11 +1,11 @@
 //! The page's frame: its head with the panel figure, and its foot.
 
-use super::gas_year::GasYear;
+use super::gas_year::{GasYear, Last};
 use super::html::escape;
 use crate::calendar::year_after;
+use crate::entry::Day;
 use crate::shown::{gas, whole};
 use crate::words::month_name;
-use nedrulov::{Date, Ledger};
 
 const STYLE: &str = include_str!("style.css");
 
@@ -17,24 +17,21 @@ pub fn document(year: &str, body: &str) -> String {
     )
 }
 
-/// The panel figure and what it stands on.
-pub fn panel(year: &GasYear, ledger: &Ledger) -> String {
-    let open = ledger
-        .accounts
-        .iter()
-        .filter(|account| account.opened)
-        .count() as u64;
-    let when = match ledger.begun {
-        true => format!(
-            "at the end of the archive; the ledger’s date is <span class=\"unbroken\">{}</span>",
-            long_date(ledger.date)
-        ),
-        false => "the ledger has not begun".to_string(),
-    };
+/// The panel figure as the year's last posting left it, and what it stands on.
+pub fn panel(year: &GasYear) -> String {
+    let open = year.last.as_ref().map_or(0, open_accounts);
     let counts = [
         (open, "open supplier", "open suppliers"),
-        (year.accepted, "posting accepted", "postings accepted"),
-        (year.refused, "posting refused", "postings refused"),
+        (
+            year.accepted,
+            "posting of the year accepted",
+            "postings of the year accepted",
+        ),
+        (
+            year.refused,
+            "posting of the year refused",
+            "postings of the year refused",
+        ),
     ];
     let count = |(number, one, several): (u64, &str, &str)| {
         let name = if number == 1 { one } else { several };
@@ -43,19 +40,41 @@ pub fn panel(year: &GasYear, ledger: &Ledger) -> String {
     format!(
         "<header>\n<p class=\"over\">Rider EFBS · bank recorder</p>\n<h1>Gas bank report, gas year <span class=\"unbroken\">{}</span></h1>\n\
          <p>April {} to March {}</p>\n</header>\n<section class=\"panel\" aria-label=\"Panel figure\">\n\
-         <div class=\"figure\"><p>Total gas in bank</p>\n<p class=\"number\">{} <span>Dth</span></p>\n<p>{when}</p></div>\n\
+         <div class=\"figure\"><p>Total gas in bank</p>\n{}</div>\n\
          <dl>\n{}</dl>\n</section>\n<p class=\"hint\">Charts and tables that are wider than the window can be moved sideways.</p>\n",
         year.name(),
         year.year,
         year_after(year.year),
-        gas(nedrulov::panel(*ledger).figure),
+        figure(year.last.as_ref()),
         counts.map(count).concat()
     )
 }
 
-fn long_date(date: Date) -> String {
-    let name = u8::try_from(date.month).map_or("", month_name);
-    format!("{} {} {}", date.day, escape(name), date.year)
+fn open_accounts(last: &Last) -> u64 {
+    let accounts = last.ledger.accounts.iter();
+    accounts.filter(|account| account.opened).count() as u64
+}
+
+/// The figure with its date.
+fn figure(last: Option<&Last>) -> String {
+    let Some(last) = last else {
+        return "<p class=\"number\">–</p>\n<p>the archive has no accepted posting of this gas year</p>"
+            .to_string();
+    };
+    let when = match last.ends_the_year() {
+        true => "at the end of the gas year",
+        false => "after the gas year’s last posting in the archive",
+    };
+    format!(
+        "<p class=\"number\">{} <span>Dth</span></p>\n<p>{when}, <span class=\"unbroken\">{}</span></p>",
+        gas(nedrulov::panel(last.ledger).figure),
+        long_date(last.entry.date)
+    )
+}
+
+fn long_date(date: Day) -> String {
+    let name = escape(month_name(date.month));
+    format!("{} {name} {}", date.day, date.year)
 }
 
 pub fn foot() -> String {

@@ -7,51 +7,44 @@ use crate::entry::Day;
 use crate::shown::gas;
 use crate::words::{numbered_violation, violation_list};
 
-/// Adjoining days with the same violations; gas that was moved is added up.
+/// Adjoining days with the same violations and no movement of gas, or one day with one.
 struct Run {
     first: Day,
     last: Day,
     last_offset: usize,
     days: u64,
     mask: u64,
-    cash_in: i64,
-    cash_out: i64,
-    forfeit: i64,
+    /// Cash-in, cash-out and forfeit.
+    moved: [Option<i64>; 3],
     bank: i64,
 }
 
 impl Run {
-    fn starting(day: &BankDay) -> Run {
-        let (date, mask, bank) = (day.date, day.report.mask, day.bank);
-        let (cash_in, cash_out, forfeit) = (0, 0, 0);
-        let mut run = Run {
-            first: date,
-            last: date,
-            last_offset: 0,
-            days: 0,
-            mask,
-            cash_in,
-            cash_out,
-            forfeit,
-            bank,
+    fn of(day: &BankDay) -> Run {
+        let moved = [Sign::CashIn, Sign::CashOut, Sign::Forfeit];
+        Run {
+            first: day.date,
+            last: day.date,
+            last_offset: day.offset,
+            days: 1,
+            mask: day.report.mask,
+            moved: moved.map(|sign| sign.moved(&day.report)),
+            bank: day.bank,
+        }
+    }
+
+    fn goes_on_with(&self, next: &Run) -> bool {
+        let adjoins = next.last_offset == self.last_offset + 1;
+        let still = [self, next].iter().all(|run| run.moved == [None; 3]);
+        adjoins && still && next.mask == self.mask
+    }
+
+    fn take(&mut self, next: Run) {
+        *self = Run {
+            first: self.first,
+            days: self.days + 1,
+            ..next
         };
-        run.take(day);
-        run
-    }
-
-    fn goes_on_with(&self, day: &BankDay) -> bool {
-        day.offset == self.last_offset + 1 && day.report.mask == self.mask
-    }
-
-    fn take(&mut self, day: &BankDay) {
-        self.last = day.date;
-        self.last_offset = day.offset;
-        self.days += 1;
-        let moved = |sign: Sign| sign.moved(&day.report).unwrap_or(0);
-        self.cash_in += moved(Sign::CashIn);
-        self.cash_out += moved(Sign::CashOut);
-        self.forfeit += moved(Sign::Forfeit);
-        self.bank = day.bank;
     }
 
     fn row(&self) -> Row {
@@ -59,7 +52,7 @@ impl Run {
             1 => self.first.to_string(),
             days => format!("{} to {} ({days} days)", self.first, self.last),
         };
-        let moves = [self.cash_in, self.cash_out, self.forfeit].map(or_dash);
+        let moves = self.moved.map(|units| units.map_or("–".to_string(), gas));
         Row::of(
             [when, named(self.mask)]
                 .into_iter()
@@ -81,20 +74,13 @@ pub fn named(mask: u64) -> String {
     }
 }
 
-fn or_dash(units: i64) -> String {
-    match units {
-        0 => "–".to_string(),
-        _ => gas(units),
-    }
-}
-
 fn runs(course: &Course) -> Vec<Run> {
     let mut runs: Vec<Run> = Vec::new();
     let reports = |day: &&BankDay| SIGNS.iter().any(|sign| sign.moved(&day.report).is_some());
-    for day in course.days.iter().filter(reports) {
-        match runs.last_mut().filter(|run| run.goes_on_with(day)) {
-            Some(run) => run.take(day),
-            None => runs.push(Run::starting(day)),
+    for next in course.days.iter().filter(reports).map(Run::of) {
+        match runs.last_mut().filter(|run| run.goes_on_with(&next)) {
+            Some(run) => run.take(next),
+            None => runs.push(next),
         }
     }
     runs

@@ -1,5 +1,6 @@
 //! Entries as text, one a line; docs/TEXT-FORMAT.md describes it.
 
+mod list;
 mod reading;
 mod writing;
 

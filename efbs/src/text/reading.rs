@@ -1,11 +1,20 @@
 //! Text to entries.
 
+use super::list::List;
+use crate::archive::OPENING;
+use crate::echo;
 use crate::entry::{Entry, Kind};
 use crate::form::{Flags, Form, Value};
+use crate::shown::whole;
 use crate::words::refusal;
 use std::collections::HashSet;
 use std::fmt;
-use std::io::{self, BufRead};
+use std::io::{self, BufRead, Read};
+
+/// With its end. An entry needs some 200 bytes at most.
+const LONGEST_LINE: usize = 1 << 16;
+/// Many times the entries that an archive can have; so an endless text of comments ends too.
+const MOST_LINES: usize = u32::MAX as usize;
 
 /// Why a text is no list of entries.
 #[derive(Debug)]
@@ -16,11 +25,13 @@ pub enum Fault {
         column: usize,
         message: String,
     },
-    /// The library refuses the entry of a line.
+    /// The library refuses the entry of a line, or the list that it would make too long.
     Entry {
         line: usize,
         number: u64,
     },
+    /// It is no text but an archive already.
+    Archive,
     Unreadable(io::Error),
 }
 
@@ -39,23 +50,30 @@ impl fmt::Display for Fault {
                     refusal(*number)
                 )
             }
+            Fault::Archive => write!(f, "an archive already"),
             Fault::Unreadable(error) => write!(f, "{error}"),
         }
     }
 }
 
 /// The entries of a text as a list of bytes; each is one that the library takes by itself.
-pub fn read(mut text: impl BufRead) -> Result<Vec<u8>, Fault> {
-    let mut list = Vec::new();
+pub fn read(text: impl BufRead) -> Result<Vec<u8>, Fault> {
+    read_lines(text, MOST_LINES)
+}
+
+fn read_lines(mut text: impl BufRead, most: usize) -> Result<Vec<u8>, Fault> {
+    let mut list = List::default();
     let mut bytes = Vec::new();
-    for line in 1.. {
+    for line in 1..=most {
         bytes.clear();
-        if text
-            .read_until(b'\n', &mut bytes)
-            .map_err(Fault::Unreadable)?
-            == 0
-        {
-            break;
+        // One byte more than is allowed, to see that there is one.
+        let mut beginning = text.by_ref().take(LONGEST_LINE as u64 + 1);
+        let length = beginning.read_until(b'\n', &mut bytes);
+        match length.map_err(Fault::Unreadable)? {
+            0 => return Ok(list.into_bytes()),
+            _ if line == 1 && bytes.starts_with(OPENING) => return Err(Fault::Archive),
+            length if length > LONGEST_LINE => return Err(too_long(line)),
+            _ => {}
         }
         let content = String::from_utf8_lossy(&bytes);
         let entry = read_line(&content).map_err(|wrong| Fault::Text {
@@ -63,15 +81,24 @@ pub fn read(mut text: impl BufRead) -> Result<Vec<u8>, Fault> {
             column: wrong.column,
             message: wrong.message,
         })?;
-        let Some(entry) = entry.map(|entry| entry.to_bytes()) else {
-            continue;
-        };
-        match nedrulov::entry_number(&entry) {
-            0 => list.extend(entry),
-            number => return Err(Fault::Entry { line, number }),
+        if let Some(entry) = entry {
+            list.add(line, &entry)?;
         }
     }
-    Ok(list)
+    Err(Fault::Text {
+        line: most,
+        column: 1,
+        message: format!("a text has at most {} lines", whole(most as u64)),
+    })
+}
+
+fn too_long(line: usize) -> Fault {
+    let most = whole(LONGEST_LINE as u64);
+    Fault::Text {
+        line,
+        column: 1,
+        message: format!("the line has more than {most} bytes, the most that one may have"),
+    }
 }
 
 struct Wrong {
@@ -98,7 +125,7 @@ impl Token<'_> {
     }
 
     fn expected(&self, what: &str) -> Wrong {
-        self.wrong(format!("expected {what}; found \"{}\"", self.text))
+        self.wrong(format!("expected {what}; found {}", echo::word(self.text)))
     }
 }
 
@@ -166,7 +193,7 @@ fn read_values<'a>(entry: &mut Entry, tokens: &[Token<'a>]) -> Result<HashSet<&'
             }
         };
         if !seen.insert(name) {
-            return Err(token.wrong(format!("\"{name}\" stands twice")));
+            return Err(token.wrong(format!("{} stands twice", echo::word(name))));
         }
     }
     Ok(seen)
@@ -192,7 +219,8 @@ fn read_value(
         .unit
         .read(text)
         .ok_or_else(|| place.expected(expected))?;
-    let too_large = || place.wrong(format!("{text} is too large; expected {expected}"));
+    let shown = echo::bare(text);
+    let too_large = || place.wrong(format!("{shown} is too large; expected {expected}"));
     value.place.set(entry, number).ok_or_else(too_large)
 }
 
@@ -236,5 +264,36 @@ fn nothing_missing(form: &Form, seen: &HashSet<&str>, end: usize) -> Result<(), 
             column: end,
             message: format!("expected exactly one of {}", words.join(", ")),
         }),
+    }
+}
+
+#[cfg(test)]
+mod tests {
+    use super::*;
+
+    const LINE: &[u8] = b"2026-04-01 close-day\n";
+
+    #[test]
+    fn endless_texts_end() {
+        let zeros = io::BufReader::new(io::repeat(0));
+        assert!(matches!(read(zeros), Err(Fault::Text { line: 1, .. })));
+        let comments = io::BufReader::new(io::repeat(b'\n'));
+        let ended = read_lines(comments, 5_000);
+        assert!(matches!(ended, Err(Fault::Text { line: 5_000, .. })));
+    }
+
+    #[test]
+    fn the_longest_line() {
+        let comment = |length: usize| [LINE, &vec![b'#'; length - 1], b"\n", LINE].concat();
+        let lists = [LONGEST_LINE, LONGEST_LINE + 1].map(|length| read(&comment(length)[..]));
+        assert!(matches!(&lists[0], Ok(list) if list.len() == 64));
+        assert!(matches!(&lists[1], Err(Fault::Text { line: 2, .. })));
+    }
+
+    #[test]
+    fn archives_are_no_texts() {
+        assert!(matches!(read(&b"EFB1\0\0\0\0"[..]), Err(Fault::Archive)));
+        let later = [LINE, b"EFB1"].concat();
+        assert!(matches!(read(&later[..]), Err(Fault::Text { line: 2, .. })));
     }
 }

@@ -5,6 +5,7 @@ mod common;
 
 mod archives;
 mod charts;
+mod flags;
 mod lanes;
 mod markup;
 mod reading;
