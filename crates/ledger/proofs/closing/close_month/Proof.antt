@@ -38,8 +38,8 @@ returns c = rw (
   (let at : tie.After-bill = search in at .bill .ensures .0),
   (let at : tie.After-next-capacity = search in at .next-capacity .ensures .0),
   (let at : tie.After-day-end = search in at .day-end .ensures),
-  (let at : tie.After-cash-at = search in at .cash-at .ensures .0),
-  (let at : tie.After-violations = search in at .violations .ensures),
+  (let day : tie.After-day-end = search in let at : tie.After-cash-at = search in at .cash-at .ensures .0),
+  (let day : tie.After-day-end = search in let at : tie.After-violations = search in at .violations .ensures),
 )
 
 pub close-month-spec : {M : Type 1} → statement M
