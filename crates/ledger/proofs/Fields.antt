@@ -1,4 +1,4 @@
--- Which bytes of an entry hold its kind and its date, for the layers above.
+-- The kind and the date are plain bytes of an entry, so each is read off the definition; for the layers above.
 use Prim.Native.Nat.{ℕ, _+_, _*_}
 use mathlib.Core.Path.{_≡_, refl}
 use mathlib.Core.List.{List}

@@ -1,4 +1,4 @@
--- A first step is at most 100, so its capacity is defined; all else of a new account is zero.
+-- A first step is at most 100, so the terms give it a capacity; what the entry does not name is zero.
 use borrow.Author.Needs.{needs}
 use Rattle.ledger.specs.Enrol.{newAccount}
 use Rattle.ledger.proofs.enrol.new_account.Statement.{statement}
