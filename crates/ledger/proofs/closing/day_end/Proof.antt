@@ -23,7 +23,12 @@ days-requires c κs = known (search) .days
 
 returns : tie.Need-returns
 unfolding dayEnd
-returns c = cc
+returns c = rw (
+  (let at : tie.After-days = search in at .days .ensures),
+  (let at : tie.After-day-marks = search in at .day-marks .ensures),
+  (let at : tie.After-with-cash = search in at .with-cash .ensures),
+  (let at : tie.After-plus = search in at .plus .ensures .0),
+)
 
 pub day-end-spec : {M : Type 1} → statement M
 day-end-spec = tie.close (search (needs, tie.spec, plus-requires, with-cash-requires, day-marks-requires, days-requires, returns))
