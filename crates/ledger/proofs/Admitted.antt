@@ -1,4 +1,4 @@
--- What holds of an entry and a ledger that passed 1 to 7 and 20 to 22.
+-- Numbers 2 to 7 and 20 to 22 are one list of checks, so that none was given tells of each that it found nothing wrong: what that says of the entry and the ledger.
 use Prim.Native.Nat.{ℕ, _≤_, _<_}
 use mathlib.Core.Path.{_≡_, refl, sym, _∙_}
 use mathlib.Core.Bool.{Bool, true, false, cond, not, _&&_}

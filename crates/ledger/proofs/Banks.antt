@@ -1,4 +1,4 @@
--- The sum of the open banks, account by account.
+-- The open banks are summed from the front: one more account moves its bank from the rest to the sum, and past the last nothing is left.
 use Prim.Native.Nat.{ℕ, suc, _+_, _≤_, _<_}
 use mathlib.Core.Path.{_≡_, sym}
 use mathlib.Core.List.{List}

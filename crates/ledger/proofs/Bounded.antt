@@ -1,4 +1,4 @@
--- What a range check that passed tells, as bounds on natural numbers.
+-- A range check joins its parts by "and", so one that passed tells each part, as a bound on a natural number.
 use Prim.Native.Nat.{ℕ, _≤_, _<_}
 use mathlib.Core.Path.{_≡_}
 use mathlib.Core.Bool.{Bool, true, false, not, _&&_, _||_, true≢false}

@@ -1,4 +1,4 @@
--- What the month's part of a closing may count on, of the account that the day's part left.
+-- The account was in range, and the day's part adds at most the cash to it: so much the month's part of a closing may count on.
 use Prim.Native.Nat.{ℕ, _≤_}
 use mathlib.Core.Path.{_≡_}
 use mathlib.Core.Bool.{true}

@@ -1,4 +1,4 @@
--- What depends on the kind, at a kind that is known.
+-- What depends on the kind is a list of cases, which computes where the kind is known; which kinds concern one account follows from the three comparisons.
 use Prim.Native.Nat.{ℕ, _≤_}
 use mathlib.Core.Path.{_∙_, _≡_, ap, sym}
 use mathlib.Core.Bool.{Bool, true, false, cond, _&&_, _||_}

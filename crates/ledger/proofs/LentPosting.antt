@@ -1,4 +1,4 @@
--- A ledger that is lent to a posting: a walk of the MIR of `ledger::post_in`, by hand, for it and for the exported door, which has the same code and contract. The borrow is opened, the ledger is copied out and passed to `post` with the slice, the ledger that `post` returned is stored in its place, and the borrow is closed at that.
+-- A lent ledger ends as what `post` makes of it: the borrow is opened, the ledger is copied out and passed to `post` with the slice, the ledger that `post` returned is stored in its place, and the borrow is closed at that. A walk of the MIR of `ledger::post_in`, by hand, for it and for the exported door, which has the same code and contract.
 -- All that the proof knows of `post` is that it meets its contract. The structs own only facts, so what they own is made anew where it is wanted (`LL.makes`).
 -- Assumes nothing.
 use mathlib.Core.Path.{_≡_, refl, sym, ap}

@@ -1,4 +1,4 @@
--- Laws of lists that a loop over the accounts goes by.
+-- A loop moves one account at a time from those to come to those behind it, so each law has a next and an end.
 use Prim.Native.Nat.{ℕ, zero, suc, _+_, _≤_, _<_}
 use mathlib.Core.Path.{_≡_, refl, sym, ap, _∙_}
 use mathlib.Core.Bool.{Bool, true, _&&_, and-assoc, and-true}

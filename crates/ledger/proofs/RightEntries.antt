@@ -1,4 +1,4 @@
--- What an entry has that is right in itself, kind by kind.
+-- An entry's number is 0 only where each of its checks found nothing wrong: what that tells, kind by kind.
 use Prim.Native.Nat.{ℕ, _≤_, _<_}
 use mathlib.Core.Path.{_≡_, refl, sym, _∙_}
 use mathlib.Core.Bool.{true, false, not, _&&_}

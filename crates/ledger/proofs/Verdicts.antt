@@ -1,4 +1,4 @@
--- What a verdict of 0 tells: no check found anything wrong.
+-- No check has the number 0, so a verdict of 0 tells of each that it found nothing wrong.
 use Prim.Native.Nat.{ℕ, zero, suc}
 use mathlib.Core.Path.{_≡_, refl}
 use mathlib.Core.Bool.{Bool, true, false, cond, not, _&&_, false≢true}

@@ -1,4 +1,4 @@
--- Of the account only its ranges are asked for, and what is cashed is at most the bank and what it may hold.
+-- An account in range has all that the cash asks of it, and the cash is at most the bank and the limit together.
 use borrow.Author.Needs.{needs}
 use Rattle.ledger.proofs.Bounded.{Bounded, bounded}
 use Rattle.ledger.specs.Closing.{cashAt}

@@ -52,23 +52,22 @@ abbrev μ-loop : tie.MeasureT-loop
 
 module _ (l : Ledger) (e : Entry) (i : ℕ) (n : length (l .accounts) ≡ 16) (h : i < 16) where
   -- an open account is closed
-  module _ (one : Closed) (p : one ≡ closedAccount (l .terms) e (accountAt l i)) where
-    open-stored : (next r : Ledger) → next ≡ accountsTo l e i → r ≡ withAccounts next (set (next .accounts) i (one .account)) → r ≡ accountsTo l e (i + 1)
-    unfolding accountAt accountClosed
-    open-stored next r v q = cc (filled-next (accountClosed (l .terms) e) (l .accounts) (l .accounts) i nobody refl (omega arith))
+  open-stored : (next r : Ledger) (one : Closed) → r ≡ withAccounts next (set (next .accounts) i (one .account)) → next ≡ accountsTo l e i → one ≡ closedAccount (l .terms) e (accountAt l i) → r ≡ accountsTo l e (i + 1)
+  unfolding accountAt accountClosed
+  open-stored next r one q v p = cc (filled-next (accountClosed (l .terms) e) (l .accounts) (l .accounts) i nobody refl (omega arith))
 
-    open-reported : (reports r : List Report) → reports ≡ reportsTo l e i → r ≡ set reports i (one .report) → r ≡ reportsTo l e (i + 1)
-    unfolding accountAt reportOf
-    open-reported reports r v q = cc (filled-next (reportOf (l .terms) e) (l .accounts) (replicate 16 quiet) i nobody (omega arith) (omega arith))
+  open-reported : (reports r : List Report) (one : Closed) → r ≡ set reports i (one .report) → reports ≡ reportsTo l e i → one ≡ closedAccount (l .terms) e (accountAt l i) → r ≡ reportsTo l e (i + 1)
+  unfolding accountAt reportOf
+  open-reported reports r one q v p = cc (filled-next (reportOf (l .terms) e) (l .accounts) (replicate 16 quiet) i nobody (omega arith) (omega arith))
 
-    open-stays : (fits day end r : Bool) → Agrees l i (staysInRange (l .terms) e) fits → day ≡ accountInRange (one .day) → end ≡ accountInRange (one .account) → r ≡ fits && (day && end)
-        → Agrees l (i + 1) (staysInRange (l .terms) e) r
-    unfolding accountAt staysInRange
-    open-stays fits day end r v x y q = cc (every-next (staysInRange (l .terms) e) (l .accounts) i nobody fits (omega arith))
+  open-stays : (fits day end r : Bool) (one : Closed) → r ≡ fits && (day && end) → Agrees l i (staysInRange (l .terms) e) fits → day ≡ accountInRange (one .day) → end ≡ accountInRange (one .account)
+      → one ≡ closedAccount (l .terms) e (accountAt l i) → Agrees l (i + 1) (staysInRange (l .terms) e) r
+  unfolding accountAt staysInRange
+  open-stays fits day end r one q v x y p = cc (every-next (staysInRange (l .terms) e) (l .accounts) i nobody fits (omega arith))
 
-  open-complete : (all ready r : Bool) → Agrees l i (complete (e .date)) all → ready ≡ complete (e .date) (accountAt l i) → r ≡ all && ready → Agrees l (i + 1) (complete (e .date)) r
+  open-complete : (all ready r : Bool) → r ≡ all && ready → Agrees l i (complete (e .date)) all → ready ≡ complete (e .date) (accountAt l i) → Agrees l (i + 1) (complete (e .date)) r
   unfolding accountAt
-  open-complete all ready r v x q = cc (every-next (complete (e .date)) (l .accounts) i nobody all (omega arith))
+  open-complete all ready r q v x = cc (every-next (complete (e .date)) (l .accounts) i nobody all (omega arith))
 
   -- one that is not open stays as it is, and has nothing to report
   module _ (o : accountAt l i .opened ≡ false) where
@@ -132,23 +131,9 @@ loop-again c =
     let n : length (s .args .t1 .accounts) ≡ 16 = sixteen s in
     let h : v .loop .i < 16 = omega arith in
     let f = ranged s (v .loop .i) h in
-    let stored = v .loop .inv .1 in
-    let reported = v .loop .inv .2 in
-    let all-so = v .loop .inv .3 in
-    let fits-so = v .loop .inv .4 in
     let further : v .loop .i + 1 ≤ 16 = omega arith in
     ⊎-elim
-    (λ w.
-    -- the parts of a branch have numbers only: what the calls ensured, and what the variables hold after it
-    let one = w .1 .ensures in
-    let ready = w .5 .ensures in
-    let day = w .6 .ensures in
-    let end = w .7 .ensures in
-    let next = w .8 in
-    let reports = w .9 in
-    let all = w .10 in
-    let fits = w .11 in
-    (further, search open-stored, search open-reported, search open-complete, search open-stays))
+    (λ w. (further, search open-stored, search open-reported, search open-complete, search open-stays))
     (λ w. (further, search shut-stored, search shut-reported, search shut-complete, search shut-stays))
     (c .if1 .came)
 

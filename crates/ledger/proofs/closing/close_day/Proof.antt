@@ -6,10 +6,11 @@ use Rattle.ledger.proofs.closing.close_day.Tie as tie
 
 returns : tie.Need-returns
 unfolding closedDay dayClosed
-returns c =
-    let masked : tie.After-violations = search in
-    let cashed : tie.After-cash-at = search in
-    rw (c .day-end .ensures, cashed .cash-at .ensures .0, masked .violations .ensures)
+returns c = rw (
+  (let at : tie.After-day-end = search in at .day-end .ensures),
+  (let at : tie.After-cash-at = search in at .cash-at .ensures .0),
+  (let at : tie.After-violations = search in at .violations .ensures),
+)
 
 pub close-day-spec : {M : Type 1} → statement M
 close-day-spec = tie.close (tie.spec (λ c κs. search needs) (λ c κs. search needs) (λ c κs. search needs) returns)

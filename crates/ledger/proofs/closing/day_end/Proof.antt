@@ -1,4 +1,5 @@
 -- The account is in range and the cash is small, so no sum of the day's end leaves its type.
+use borrow.Author.Needs.{needs}
 use native.Mathlib.Omega.{arith}
 use Rattle.ledger.proofs.Bounded.{Bounded, bounded}
 use Rattle.ledger.specs.Closing.{dayEnd}
@@ -8,13 +9,26 @@ use Rattle.ledger.proofs.closing.day_end.Tie as tie
 known : (s : tie.Start) → Bounded (s .args .a)
 known s = bounded (s .args .a) (s .pre .0)
 
-pub day-end-spec : {M : Type 1} → statement M
+plus-requires : tie.Need-plus-requires
+plus-requires c κs = omega (arith, known (search))
+
+with-cash-requires : tie.Need-with-cash-requires
+with-cash-requires c κs = search (known (search))
+
+day-marks-requires : tie.Need-day-marks-requires
+day-marks-requires c κs = known (search) .bcq
+
+days-requires : tie.Need-days-requires
+days-requires c κs = known (search) .days
+
+returns : tie.Need-returns
 unfolding dayEnd
-day-end-spec =
-    tie.close
-    (tie.spec
-    (λ c κs. omega (arith, known (search)))
-    (λ c κs. search (known (search)))
-    (λ c κs. known (search) .bcq)
-    (λ c κs. known (search) .days)
-    (λ c. cc))
+returns c = rw (
+  (let at : tie.After-days = search in at .days .ensures),
+  (let at : tie.After-day-marks = search in at .day-marks .ensures),
+  (let at : tie.After-with-cash = search in at .with-cash .ensures),
+  (let at : tie.After-plus = search in at .plus .ensures .0),
+)
+
+pub day-end-spec : {M : Type 1} → statement M
+day-end-spec = tie.close (search (needs, tie.spec, plus-requires, with-cash-requires, day-marks-requires, days-requires, returns))

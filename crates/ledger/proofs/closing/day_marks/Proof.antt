@@ -1,4 +1,4 @@
--- The marks of a new day: only the excuse may stay, and it ends where the bank is back within its limit.
+-- A new day has no delivery and no violation yet; the excuse ends where the bank is within its limit, and the month's marks stay.
 use borrow.Author.Needs.{needs}
 use Rattle.ledger.specs.Closing.{dayMarks}
 use Rattle.ledger.proofs.closing.day_marks.Statement.{statement}

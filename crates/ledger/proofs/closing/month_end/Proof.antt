@@ -6,22 +6,15 @@ use Rattle.ledger.proofs.closing.month_end.Tie as tie
 
 returns : tie.Need-returns
 unfolding monthEnd
-returns c =
-    let limit : tie.After-limit = search in
-    let carry : tie.After-carry = search in
-    let less : tie.After-less = search in
-    let plus : tie.After-plus = search in
-    let settled : tie.After-settled = search in
-    let totals : tie.After-no-totals = search in
-    rw (
-      c .month-marks .ensures,
-      totals .no-totals .ensures,
-      settled .settled .ensures,
-      plus .plus .ensures,
-      less .less .ensures .0,
-      carry .carry .ensures .0,
-      limit .limit .ensures .0,
-    )
+returns c = rw (
+  (let at : tie.After-month-marks = search in at .month-marks .ensures),
+  (let at : tie.After-no-totals = search in at .no-totals .ensures),
+  (let at : tie.After-settled = search in at .settled .ensures),
+  (let at : tie.After-plus = search in at .plus .ensures),
+  (let at : tie.After-less = search in at .less .ensures .0),
+  (let at : tie.After-carry = search in at .carry .ensures .0),
+  (let at : tie.After-limit = search in at .limit .ensures .0),
+)
 
 limit-requires : tie.Need-limit-requires
 limit-requires c κs = search needs

@@ -7,10 +7,10 @@ use Rattle.ledger.proofs.closing.month_marks.Tie as tie
 
 returns : tie.Need-returns
 unfolding monthMarks noMarks
-returns c =
-    let f : tie.After-falls = search in
-    let m : tie.After-no-marks = search in
-    rw (m .no-marks .ensures, f .falls .ensures)
+returns c = rw (
+  (let at : tie.After-no-marks = search in at .no-marks .ensures),
+  (let at : tie.After-falls = search in at .falls .ensures),
+)
 
 pub month-marks-spec : {M : Type 1} → statement M
 month-marks-spec = tie.close (search (needs, tie.spec, returns))

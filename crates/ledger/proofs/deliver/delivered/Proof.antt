@@ -11,13 +11,13 @@ known s = bounded (s .args .a) (s .pre .0)
 
 returns : tie.Need-returns
 unfolding delivered deliveryMarks withBank withMonth withMarks withNet
-returns c =
-    let share : tie.After-share-of = search in
-    let v1 : tie.After-breaks-v1 = search in
-    let v2 : tie.After-breaks-v2 = search in
-    let bank : tie.After-plus = search in
-    let net : tie.After-plus2 = search in
-    rw (net .plus2 .ensures .0, bank .plus .ensures .0, v2 .breaks-v2 .ensures, v1 .breaks-v1 .ensures, share .share-of .ensures .0)
+returns c = rw (
+  (let at : tie.After-plus2 = search in at .plus2 .ensures .0),
+  (let at : tie.After-plus = search in at .plus .ensures .0),
+  (let at : tie.After-breaks-v2 = search in at .breaks-v2 .ensures),
+  (let at : tie.After-breaks-v1 = search in at .breaks-v1 .ensures),
+  (let at : tie.After-share-of = search in at .share-of .ensures .0),
+)
 
 pub delivered-spec : {M : Type 1} → statement M
 delivered-spec =

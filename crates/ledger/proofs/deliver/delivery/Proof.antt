@@ -17,12 +17,12 @@ use Rattle.ledger.proofs.deliver.delivery.Statement.{statement}
 use Rattle.ledger.proofs.deliver.delivery.Tie as tie
 
 judged : (t : Terms) (a b : Account) (e : Entry) (amount : Units) (fits : Bool) (n₁ n₂ n₃ : ℕ)
-    → amount ≡ retained (t .retainage) (record { 0 = e .w1 }) (record { 0 = e .w2 })
+    → n₃ ≡ cond (not (a .opened)) 24 n₂ → n₂ ≡ cond (a .marks .delivered) 26 n₁ → n₁ ≡ cond (not fits) 29 0 → fits ≡ accountInRange b
     → b ≡ delivered (e .date .month) a amount (record { 0 = e .w2 })
-    → fits ≡ accountInRange b → n₁ ≡ cond (not fits) 29 0 → n₂ ≡ cond (a .marks .delivered) 26 n₁ → n₃ ≡ cond (not (a .opened)) 24 n₂
+    → amount ≡ retained (t .retainage) (record { 0 = e .w1 }) (record { 0 = e .w2 })
     → record { number = n₃; account = b } ≡ delivery t a e
 unfolding delivery deliverChecks afterDelivery amountUnder verdict
-judged t a b e amount fits n₁ n₂ n₃ p q r q₁ q₂ q₃ = cc
+judged t a b e amount fits n₁ n₂ n₃ q₃ q₂ q₁ r q p = cc
 
 retained-requires : tie.Need-retained-requires
 retained-requires c κs =

@@ -17,14 +17,14 @@ use Rattle.ledger.proofs.enrol.enrolment.Statement.{statement}
 use Rattle.ledger.proofs.enrol.enrolment.Tie as tie
 
 judged : (t : Terms) (a b : Account) (e : Entry) (first only wants stays above fits : Bool) (n₁ n₂ n₃ n₄ n₅ : ℕ)
-    → b ≡ newAccount t (record { 0 = e .w1 }) (record { 0 = e .w2 })
-    → first ≡ firstOfGasYear (e .date) → only ≡ processOnly e → wants ≡ wishes e
-    → stays ≡ staysOnFbs only wants (record { 0 = e .w1 }) → above ≡ openingTooHigh (record { 0 = e .w2 }) (b .capacity .bcq)
-    → fits ≡ accountInRange b → n₁ ≡ cond (not fits) 29 0
-    → n₂ ≡ cond above 28 n₁ → n₃ ≡ cond stays 25 n₂ → n₄ ≡ cond (a .opened) 24 n₃ → n₅ ≡ cond (not first) 23 n₄
+    → n₅ ≡ cond (not first) 23 n₄ → n₄ ≡ cond (a .opened) 24 n₃ → n₃ ≡ cond stays 25 n₂ → n₂ ≡ cond above 28 n₁ → n₁ ≡ cond (not fits) 29 0
+    → first ≡ firstOfGasYear (e .date)
+    → stays ≡ staysOnFbs only wants (record { 0 = e .w1 }) → only ≡ processOnly e → wants ≡ wishes e
+    → above ≡ openingTooHigh (record { 0 = e .w2 }) (b .capacity .bcq)
+    → fits ≡ accountInRange b → b ≡ newAccount t (record { 0 = e .w1 }) (record { 0 = e .w2 })
     → record { number = n₅; account = b } ≡ enrolment t a e
 unfolding enrolment enrolChecks enrolled verdict
-judged t a b e first only wants stays above fits n₁ n₂ n₃ n₄ n₅ p f o w s h r q₁ q₂ q₃ q₄ q₅ = cc
+judged t a b e first only wants stays above fits n₁ n₂ n₃ n₄ n₅ q₅ q₄ q₃ q₂ q₁ f s o w h r p = cc
 
 new-account-requires : tie.Need-new-account-requires
 new-account-requires c κs =

@@ -1,4 +1,4 @@
--- A first step is at most 100, so its capacity is defined; all else of a new account is zero.
+-- A first step is at most 100, so the terms give it a capacity; what the entry does not name is zero.
 use borrow.Author.Needs.{needs}
 use Rattle.ledger.specs.Enrol.{newAccount}
 use Rattle.ledger.proofs.enrol.new_account.Statement.{statement}
@@ -6,14 +6,16 @@ use Rattle.ledger.proofs.enrol.new_account.Tie as tie
 
 returns : tie.Need-returns
 unfolding newAccount
-returns c =
-    let step : tie.After-first = search in
-    let capacity : tie.After-capacity = search in
-    let totals : tie.After-no-totals = search in
-    let marks : tie.After-no-marks = search in (
-      rw (c .of .ensures, marks .no-marks .ensures, totals .no-totals .ensures, capacity .capacity .ensures .0, step .first .ensures .0),
-      search needs,
-    )
+returns c = (
+  rw (
+    (let at : tie.After-of = search in at .of .ensures),
+    (let at : tie.After-no-marks = search in at .no-marks .ensures),
+    (let at : tie.After-no-totals = search in at .no-totals .ensures),
+    (let at : tie.After-capacity = search in at .capacity .ensures .0),
+    (let at : tie.After-first = search in at .first .ensures .0),
+  ),
+  search needs,
+)
 
 first-requires : tie.Need-first-requires
 first-requires c κs = search needs

@@ -14,11 +14,11 @@ use Rattle.ledger.proofs.measure.measurement.Statement.{statement}
 use Rattle.ledger.proofs.measure.measurement.Tie as tie
 
 judged : (a b : Account) (e : Entry) (day fits : Bool) (n₁ n₂ n₃ n₄ : ℕ)
-    → day ≡ onMeasurementDay (e .date) → b ≡ remeasured a (record { 0 = e .w1 })
-    → fits ≡ accountInRange b → n₁ ≡ cond (not fits) 29 0 → n₂ ≡ cond (a .marks .measured) 26 n₁ → n₃ ≡ cond (not (a .opened)) 24 n₂ → n₄ ≡ cond (not day) 23 n₃
+    → n₄ ≡ cond (not day) 23 n₃ → n₃ ≡ cond (not (a .opened)) 24 n₂ → n₂ ≡ cond (a .marks .measured) 26 n₁ → n₁ ≡ cond (not fits) 29 0
+    → fits ≡ accountInRange b → b ≡ remeasured a (record { 0 = e .w1 }) → day ≡ onMeasurementDay (e .date)
     → record { number = n₄; account = b } ≡ measurement a e
 unfolding measurement measureChecks afterMeasure verdict
-judged a b e day fits n₁ n₂ n₃ n₄ d p r q₁ q₂ q₃ q₄ = cc
+judged a b e day fits n₁ n₂ n₃ n₄ q₄ q₃ q₂ q₁ r p d = cc
 
 on-measurement-day-requires : tie.Need-on-measurement-day-requires
 on-measurement-day-requires c κs = search (needs, is-real)

@@ -1,4 +1,4 @@
--- The runs of an account in range are at most 2, so one more is no more than 3; only the demand, the step and the mark change.
+-- The runs of an account in range are at most 2, which is all that a measured step asks; only the demand, the step and the mark change.
 use native.Mathlib.Omega.{arith}
 use Rattle.ledger.proofs.Bounded.{bounded}
 use Rattle.ledger.specs.Measure.{measureMark, remeasured}

@@ -20,11 +20,11 @@ module _ (fits begun : Bool) (today : Date) (e : Entry) (n : ℕ) (p : n ≡ ent
   wrong d = rw p (sym (admission-own fits begun today e (rw p at d)))
 
   judged : n ≡ 0 → (same : Bool) (n₁ n₂ n₃ : ℕ)
-      → same ≡ sameDate (e .date) today → n₁ ≡ cond (begun && not same) 22 0
-      → n₂ ≡ cond (not begun && not (eqb (e .kind) 1)) 21 n₁ → n₃ ≡ cond (not fits) 20 n₂
+      → n₃ ≡ cond (not fits) 20 n₂ → n₂ ≡ cond (not begun && not (eqb (e .kind) 1)) 21 n₁
+      → n₁ ≡ cond (begun && not same) 22 0 → same ≡ sameDate (e .date) today
       → n₃ ≡ verdict (entryChecks e ++ standingChecks fits begun today e)
   unfolding standingChecks verdict
-  judged z same n₁ n₂ n₃ d q₁ q₂ q₃ = cc (admission-standing fits begun today e (sym p ∙ z))
+  judged z same n₁ n₂ n₃ q₃ q₂ q₁ d = cc (admission-standing fits begun today e (sym p ∙ z))
 
 returns : tie.Need-returns
 returns c = search wrong

@@ -6,12 +6,12 @@ use Rattle.ledger.proofs.ranges.account_in_range.Tie as tie
 
 returns : tie.Need-returns
 unfolding accountInRange
-returns c =
-    let bank : tie.After-within = search in
-    let totals : tie.After-totals-in-range = search in
-    let steps : tie.After-step-in-range = search in
-    let owed : tie.After-within2 = search in
-    rw (owed .within2 .ensures, steps .step-in-range .ensures, totals .totals-in-range .ensures, bank .within .ensures)
+returns c = rw (
+  (let at : tie.After-within2 = search in at .within2 .ensures),
+  (let at : tie.After-step-in-range = search in at .step-in-range .ensures),
+  (let at : tie.After-totals-in-range = search in at .totals-in-range .ensures),
+  (let at : tie.After-within = search in at .within .ensures),
+)
 
 pub account-in-range-spec : {M : Type 1} → statement M
 account-in-range-spec = tie.close (search (needs, tie.spec, returns))

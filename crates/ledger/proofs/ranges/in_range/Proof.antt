@@ -22,9 +22,7 @@ sixteen s = search (needs, length-mapped)
 
 loop-holds : tie.Need-loop-holds Inv-loop μ-loop
 unfolding inRange
-loop-holds c =
-    let date : tie.After-real Inv-loop μ-loop = search in
-    (search needs, rw (c .in-range .ensures, date .real .ensures))
+loop-holds c = (search needs, rw ((let at : tie.After-in-range Inv-loop μ-loop = search in at .in-range .ensures), (let at : tie.After-real Inv-loop μ-loop = search in at .real .ensures)))
 
 loop-again : tie.Need-loop-again Inv-loop μ-loop
 unfolding nobody noTotals noMarks
@@ -32,7 +30,7 @@ loop-again c =
     let s : tie.Start Inv-loop μ-loop = search in
     let v : tie.At-loop Inv-loop μ-loop = search in (
       omega arith,
-      rw (c .account-in-range .ensures)
+      rw (let at : tie.After-account-in-range Inv-loop μ-loop = search in at .account-in-range .ensures)
           (sym (every-next accountInRange (s .args .t1 .accounts) (v .loop .i) nobody (v .loop .ok) (omega (arith, sixteen s))) ∙ v .loop .inv .1),
     )
 

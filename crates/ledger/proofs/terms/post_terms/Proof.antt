@@ -15,11 +15,11 @@ use Rattle.ledger.proofs.terms.post_terms.Statement.{statement}
 use Rattle.ledger.proofs.terms.post_terms.Tie as tie
 
 judged : (l next : Ledger) (e : Entry) (first fits : Bool) (n₁ n₂ n₃ : ℕ) (r : Posted)
-    → first ≡ firstOfGasYear (e .date) → next ≡ termsNext l e → fits ≡ inRange next
-    → n₁ ≡ cond (not fits) 29 0 → n₂ ≡ cond (l .touched) 23 n₁ → n₃ ≡ cond (not first) 23 n₂
-    → r ≡ settle l n₃ next → r ≡ postTerms l e
+    → r ≡ settle l n₃ next → n₃ ≡ cond (not first) 23 n₂ → n₂ ≡ cond (l .touched) 23 n₁ → n₁ ≡ cond (not fits) 29 0
+    → fits ≡ inRange next → next ≡ termsNext l e → first ≡ firstOfGasYear (e .date)
+    → r ≡ postTerms l e
 unfolding postTerms termsChecks verdict
-judged l next e first fits n₁ n₂ n₃ r f p q q₁ q₂ q₃ z = cc
+judged l next e first fits n₁ n₂ n₃ r z q₃ q₂ q₁ q p f = cc
 
 terms-next-requires : tie.Need-terms-next-requires
 terms-next-requires c κs = search needs

@@ -43,7 +43,7 @@ loop-again c =
     let t : tie.After-terms Inv-loop μ-loop = search in
     let xs = s .args .t1 .accounts in (
       omega arith,
-      rw (v .loop .inv .1, c .reworked .ensures, filled-next (reworked (t .terms .result)) xs xs (v .loop .i) nobody (omega arith) (omega (arith, sixteen s))),
+      rw (v .loop .inv .1, (let at : tie.After-reworked Inv-loop μ-loop = search in at .reworked .ensures), filled-next (reworked (t .terms .result)) xs xs (v .loop .i) nobody (omega arith) (omega (arith, sixteen s))),
     )
 
 returns : tie.Need-returns Inv-loop μ-loop

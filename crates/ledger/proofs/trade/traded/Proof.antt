@@ -11,17 +11,19 @@ known s = bounded (s .args .a) (s .pre .0)
 
 returns : tie.Need-returns
 unfolding traded withBank withMonth withTrade
-returns c =
-    let sells : tie.Then1 = search in
-    let bank : tie.After-more = search in
-    rw (c .plus .ensures, bank .more .ensures .0, sells .if1 .taken)
+returns c = rw (
+  (let at : tie.After-plus = search in at .plus .ensures),
+  (let at : tie.After-more = search in at .more .ensures .0),
+  (let at : tie.Then1 = search in at .if1 .taken),
+)
 
 returns-2 : tie.Need-returns-2
 unfolding traded withBank withMonth withTrade
-returns-2 c =
-    let buys : tie.Else1 = search in
-    let bank : tie.After-less = search in
-    rw (c .plus2 .ensures, bank .less .ensures .0, buys .if1 .left)
+returns-2 c = rw (
+  (let at : tie.After-plus2 = search in at .plus2 .ensures),
+  (let at : tie.After-less = search in at .less .ensures .0),
+  (let at : tie.Else1 = search in at .if1 .left),
+)
 
 pub traded-spec : {M : Type 1} → statement M
 traded-spec =

@@ -12,11 +12,11 @@ use Rattle.ledger.proofs.usage.usage.Statement.{statement}
 use Rattle.ledger.proofs.usage.usage.Tie as tie
 
 judged : (a b : Account) (e : Entry) (fits : Bool) (n₁ n₂ n₃ : ℕ)
-    → b ≡ metered a (record { 0 = e .w1 }) → fits ≡ accountInRange b
-    → n₁ ≡ cond (not fits) 29 0 → n₂ ≡ cond (a .marks .metered) 26 n₁ → n₃ ≡ cond (not (a .opened)) 24 n₂
+    → n₃ ≡ cond (not (a .opened)) 24 n₂ → n₂ ≡ cond (a .marks .metered) 26 n₁ → n₁ ≡ cond (not fits) 29 0
+    → fits ≡ accountInRange b → b ≡ metered a (record { 0 = e .w1 })
     → record { number = n₃; account = b } ≡ usage a e
 unfolding usage usageChecks afterUsage verdict
-judged a b e fits n₁ n₂ n₃ p r q₁ q₂ q₃ = cc
+judged a b e fits n₁ n₂ n₃ q₃ q₂ q₁ r p = cc
 
 returns : tie.Need-returns
 returns c = search judged

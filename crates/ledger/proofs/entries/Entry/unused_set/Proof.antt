@@ -6,12 +6,12 @@ use Rattle.ledger.proofs.entries.Entry.unused_set.Tie as tie
 
 returns : tie.Need-returns
 unfolding unusedSet
-returns c =
-    let words : tie.After-words-used = search in
-    let a : tie.After-uses-a = search in
-    let b : tie.After-uses-b = search in
-    let flag : tie.After-largest-flag = search in
-    rw (flag .largest-flag .ensures, b .uses-b .ensures, a .uses-a .ensures, words .words-used .ensures)
+returns c = rw (
+  (let at : tie.After-largest-flag = search in at .largest-flag .ensures),
+  (let at : tie.After-uses-b = search in at .uses-b .ensures),
+  (let at : tie.After-uses-a = search in at .uses-a .ensures),
+  (let at : tie.After-words-used = search in at .words-used .ensures),
+)
 
 pub unused-set-spec : {M : Type 1} → statement M
 unused-set-spec = tie.close (search (needs, tie.spec, returns))
