@@ -17,7 +17,8 @@ in-range month bcq t = leb-true bcq 30000000 (and-right (leb 1 month && leb mont
 
 -- the answer, by the one test
 module _ (month bcq : ℕ) where
-  limits : (p least q most : _) → limited month bcq ≡ true → p ≡ minimum (record { 0 = month }) → least ≡ percent p (record { 0 = bcq }) → q ≡ maximum (record { 0 = month }) → most ≡ percent q (record { 0 = bcq })
+  limits : (p least q most : _) → limited month bcq ≡ true → p ≡ minimum (record { 0 = month })
+      → least ≡ percent p (record { 0 = bcq }) → q ≡ maximum (record { 0 = month }) → most ≡ percent q (record { 0 = bcq })
       → record { minimum = least .0; maximum = most .0 } ≡ bandOf month bcq
   unfolding bandOf
   limits p least q most t e₁ e₂ e₃ e₄ = cc

@@ -10,7 +10,9 @@ use Rattle.tariff.proofs.closing.breaks_v5.Statement.{statement}
 use Rattle.tariff.proofs.closing.breaks_v5.Tie as tie
 
 -- the answer, from what the calls give
-answer : (d bcq net ends second third p least out low : _) → ends ≡ lastOfMonth d → second ≡ sameMonth (d .month) february → third ≡ sameMonth (d .month) march → p ≡ withdrawalMinimum (d .month) → least ≡ percent p bcq → out ≡ opposite net → low ≡ below out least
+answer : (d bcq net ends second third p least out low : _) → ends ≡ lastOfMonth d → second ≡ sameMonth (d .month) february
+    → third ≡ sameMonth (d .month) march → p ≡ withdrawalMinimum (d .month) → least ≡ percent p bcq → out ≡ opposite net
+    → low ≡ below out least
     → (ends && (second || third)) && low ≡ breaksV5 d bcq net
 unfolding breaksV5
 answer d bcq net ends second third p least out low e₁ e₂ e₃ e₄ e₅ e₆ e₇ = cc

@@ -10,7 +10,8 @@ use Rattle.tariff.proofs.closing.breaks_v6.Statement.{statement}
 use Rattle.tariff.proofs.closing.breaks_v6.Tie as tie
 
 -- the answer, from what the calls give
-answer : (d bcq bank day first high day′ second high′ : _) → day ≡ isOn june 30 d → first ≡ percent 60 bcq → high ≡ above bank first → day′ ≡ isOn august 31 d → second ≡ percent 85 bcq → high′ ≡ above bank second
+answer : (d bcq bank day first high day′ second high′ : _) → day ≡ isOn june 30 d → first ≡ percent 60 bcq
+    → high ≡ above bank first → day′ ≡ isOn august 31 d → second ≡ percent 85 bcq → high′ ≡ above bank second
     → (day && high) || (day′ && high′) ≡ breaksV6 d bcq bank
 unfolding breaksV6
 answer d bcq bank day first high day′ second high′ e₁ e₂ e₃ e₄ e₅ e₆ = cc

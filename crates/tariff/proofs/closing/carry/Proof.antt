@@ -11,7 +11,8 @@ use Rattle.tariff.proofs.closing.carry.Statement.{statement}
 use Rattle.tariff.proofs.closing.carry.Tie as tie
 
 -- the answer, from what the calls give
-answer : (m limit net out beyond cold last kept : _) → out ≡ opposite net → beyond ≡ excessOver out limit → cold ≡ winter m → last ≡ sameMonth m march → kept ≡ cond (cold && not last) (beyond .0) 0
+answer : (m limit net out beyond cold last kept : _) → out ≡ opposite net → beyond ≡ excessOver out limit → cold ≡ winter m
+    → last ≡ sameMonth m march → kept ≡ cond (cold && not last) (beyond .0) 0
     → record { 0 = kept } ≡ carryOf m limit net
 unfolding carryOf
 answer m limit net out beyond cold last kept e₁ e₂ e₃ e₄ e₅ = cc

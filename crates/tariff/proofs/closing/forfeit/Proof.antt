@@ -11,7 +11,9 @@ use Rattle.tariff.proofs.closing.forfeit.Statement.{statement}
 use Rattle.tariff.proofs.closing.forfeit.Tie as tie
 
 -- the answer, from what the calls give
-answer : (m bcq bank p x q y first third other taken : _) → p ≡ percent 65 bcq → x ≡ excessOver bank p → q ≡ percent 25 bcq → y ≡ excessOver bank q → first ≡ sameMonth m january → third ≡ sameMonth m march → other ≡ cond third (y .0) 0 → taken ≡ cond first (x .0) other
+answer : (m bcq bank p x q y first third other taken : _) → p ≡ percent 65 bcq → x ≡ excessOver bank p → q ≡ percent 25 bcq
+    → y ≡ excessOver bank q → first ≡ sameMonth m january → third ≡ sameMonth m march → other ≡ cond third (y .0) 0
+    → taken ≡ cond first (x .0) other
     → record { 0 = taken } ≡ forfeitOf m bcq bank
 unfolding forfeitOf
 answer m bcq bank p x q y first third other taken e₁ e₂ e₃ e₄ e₅ e₆ e₇ e₈ = cc

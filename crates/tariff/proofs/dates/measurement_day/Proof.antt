@@ -9,7 +9,9 @@ use Rattle.tariff.proofs.dates.measurement_day.Statement.{statement}
 use Rattle.tariff.proofs.dates.measurement_day.Tie as tie
 
 -- the answer, from what the calls give
-answer : (x day : ℕ) (year month first second : _) → first ≡ weekday (record { year = year; month = month; day = 25 }) → second ≡ weekday (record { year = year; month = month; day = 26 }) → x ≡ cond (ltb second 5) 26 27 → day ≡ cond (ltb first 5) 25 x
+answer : (x day : ℕ) (year month first second : _) → first ≡ weekday (record { year = year; month = month; day = 25 })
+    → second ≡ weekday (record { year = year; month = month; day = 26 }) → x ≡ cond (ltb second 5) 26 27
+    → day ≡ cond (ltb first 5) 25 x
     → day ≡ measurementDay year month
 unfolding measurementDay businessDay
 answer x day year month first second e₁ e₂ e₃ e₄ = cc

@@ -10,7 +10,8 @@ use Rattle.tariff.proofs.delivery.days_of_injection.Statement.{statemen
 use Rattle.tariff.proofs.delivery.days_of_injection.Tie as tie
 
 -- the answer, from what the calls give
-answer : (days : ℕ) (m eleventh twelfth : _) → eleventh ≡ sameMonth m november → twelfth ≡ sameMonth m december → days ≡ cond (eleventh || twelfth) 30 25
+answer : (days : ℕ) (m eleventh twelfth : _) → eleventh ≡ sameMonth m november → twelfth ≡ sameMonth m december
+    → days ≡ cond (eleventh || twelfth) 30 25
     → days ≡ daysOfInjection m
 unfolding daysOfInjection
 answer days m eleventh twelfth e₁ e₂ e₃ = cc

@@ -16,7 +16,9 @@ bounds : (s : tie.Start) → DateBounds (s .args .self) × (monthLength (s .args
 bounds s = (date-bounds (s .args .self) (s .pre), month-length-le (s .args .self .year) (s .args .self .month))
 
 -- the answer, from what the calls give
-answer : (d : Date) (year month day : ℕ) (ends twelfth : _) → ends ≡ lastOfMonth d → twelfth ≡ sameMonth (d .month) december → year ≡ cond (ends && twelfth) (d .year + 1) (d .year) → month ≡ cond ends (d .month .0 % 12 + 1) (d .month .0) → day ≡ cond ends 1 (d .day + 1)
+answer : (d : Date) (year month day : ℕ) (ends twelfth : _) → ends ≡ lastOfMonth d → twelfth ≡ sameMonth (d .month) december
+    → year ≡ cond (ends && twelfth) (d .year + 1) (d .year) → month ≡ cond ends (d .month .0 % 12 + 1) (d .month .0)
+    → day ≡ cond ends 1 (d .day + 1)
     → record { year = year; month = record { 0 = month }; day = day } ≡ dayAfter d
 unfolding dayAfter
 answer d year month day ends twelfth e₁ e₂ e₃ e₄ e₅ = cc

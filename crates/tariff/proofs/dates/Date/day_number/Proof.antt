@@ -12,7 +12,8 @@ use Rattle.tariff.proofs.dates.Date.day_number.Statement.{statement}
 use Rattle.tariff.proofs.dates.Date.day_number.Tie as tie
 
 -- the answer, from what the calls give
-answer : (d : Date) (lack short : ℕ) (longer : _) → d .month .0 ≤ 12 → longer ≡ leap (d .year) → lack ≡ cond longer 1 2 → short ≡ cond (ltb 2 (d .month .0)) lack 0
+answer : (d : Date) (lack short : ℕ) (longer : _) → d .month .0 ≤ 12 → longer ≡ leap (d .year) → lack ≡ cond longer 1 2
+    → short ≡ cond (ltb 2 (d .month .0)) lack 0
     → 365 * (d .year - 2000) + (d .year - 2000 + 3) / 4 + ((367 * d .month .0 - 362) / 12 - short) + (d .day - 1) ≡ dayNumber d
 unfolding dayNumber
 answer d lack short longer e₁ e₂ e₃ e₄ = cc (days-before (d .year) (d .month .0) e₁)
