@@ -7,7 +7,9 @@ use denote.Triple.Spec.{Meets, tripleOf}
 use denote.Triple.Table.{entered, cited}
 use Rattle.ledger.proofs.LentPosting.{ledger-ty, answer-ty, function, PostC, post-in-meets}
 use Rattle.ledger.proofs.post.Symbol as post-def
+use Rattle.ledger.proofs.post.Symbol.{name as #ledger·post}
 use Rattle.ledger.proofs.post.Met as post-thm
+use Rattle.ledger.proofs.post_in.Key.{name as #ledger·post-in}
 use Rattle.ledger.proofs.post_in as post-in
 use Rattle.ledger.proofs.post_in.Statement as stated
 use Rattle.ledger.proofs.post_in.Code as code

@@ -7,7 +7,9 @@ use denote.Triple.Spec.{Meets, tripleOf}
 use denote.Triple.Table.{entered, cited}
 use Rattle.ledger.proofs.LentPosting.{ledger-ty, answer-ty, function, PostC, post-in-meets}
 use Rattle.ledger.proofs.post.Symbol as post-def
+use Rattle.ledger.proofs.post.Symbol.{name as #ledger·post}
 use Rattle.ledger.proofs.post.Met as post-thm
+use Rattle.nedrulov.proofs.nedrulov_post.Key.{name as #nedrulov·post}
 use Rattle.nedrulov.proofs.nedrulov_post as lent
 use Rattle.nedrulov.proofs.nedrulov_post.Statement as stated
 use Rattle.nedrulov.proofs.nedrulov_post.Code as code
