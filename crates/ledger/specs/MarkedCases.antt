@@ -122,3 +122,7 @@ pub record MarkedCases : Type 0 where
   pub case9 : (numberAfter upToThe27th (measure 27 4200) ≡ 0) × (numberAfter (begun 0 ++ quietDays 1 23) (measure 24 4200) ≡ 23)
   -- no marked case: a day on which nothing is broken reports nothing, so no cash is made up
   pub quietDay : reportAfter (begun 1000 ++ deliver 1 0 0 ∷ []) (closeDay 1) ≡ quiet
+  -- nor left out: a bank 4,925,000 above April's maximum, and above 102 percent, is cashed out by that much, with V1, V3 and V8
+  pub overfull :
+      reportAfter (begun 1562625 ++ deliver 1 5000000 0 ∷ []) (closeDay 1)
+      ≡ record { mask = 133; cash = record { 0 = negsuc 4924999 }; forfeit = record { 0 = 0 }; bill = record { 0 = pos 0 } }

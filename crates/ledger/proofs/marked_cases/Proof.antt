@@ -44,6 +44,7 @@ all-nine =
       case8 = (refl, refl);
       case9 = (refl, refl);
       quietDay = refl;
+      overfull = refl;
     }
 
 pub marked-cases-spec : {M : Type 1} → statement M
