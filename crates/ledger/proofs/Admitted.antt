@@ -1,24 +1,25 @@
 -- Numbers 2 to 7 and 20 to 22 are one list of checks, so that none was given tells of each that it found nothing wrong: what that says of the entry and the ledger.
-use Prim.Native.Nat.{ℕ, _≤_, _<_}
+use Prim.Native.Nat.{ℕ}
 use mathlib.Core.Path.{_≡_, refl, sym, _∙_}
 use mathlib.Core.Bool.{Bool, true, false, cond, not, _&&_}
 use mathlib.Core.List.{_++_}
-use lib.Dec.{eqb}
+use lib.Dec.{eqb, leb}
 use borrow.Author.Tests.{eqb-true, eq-eqb, ne-eqb, not-false}
 use Rattle.tariff.specs.Dates.{real}
 use Rattle.tariff.specs.declared.dates.Date.{Date}
 use Rattle.ledger.specs.Checks.{verdict}
-use Rattle.ledger.specs.Entries.{entryChecks, entryNumber}
+use Rattle.ledger.specs.Kinds.{kindOf}
+use Rattle.ledger.specs.Entries.{fieldChecks, fieldNumber, entryChecks, entryNumber}
 use Rattle.ledger.specs.Ranges.{inRange}
 use Rattle.ledger.specs.Posting.{standingChecks, admission}
 use Rattle.ledger.specs.declared.state.Ledger.{Ledger}
 use Rattle.ledger.specs.declared.entries.Entry.{Entry}
 use Rattle.ledger.proofs.RightEntries as right
-use Rattle.ledger.proofs.Verdicts.{clear, verdict-append}
+use Rattle.ledger.proofs.Verdicts.{first, clear, verdict-append}
 
 module _ (fits begun : Bool) (today : Date) (e : Entry) where
   admission-by : verdict (entryChecks e ++ standingChecks fits begun today e) ≡ cond (eqb (entryNumber e) 0) (verdict (standingChecks fits begun today e)) (entryNumber e)
-  unfolding entryNumber entryChecks
+  unfolding entryNumber entryChecks fieldChecks
   admission-by = verdict-append (entryChecks e) (standingChecks fits begun today e) refl
 
   -- an entry wrong in itself is refused for that
@@ -30,7 +31,7 @@ module _ (fits begun : Bool) (today : Date) (e : Entry) where
   admission-standing own = rw (admission-by, eq-eqb (entryNumber e) 0 own)
 
   -- one that is not refused is right in itself
-  own-number : verdict (entryChecks e ++ standingChecks fits begun today e) ≡ 0 → entryNumber e ≡ 0
+  pub own-number : verdict (entryChecks e ++ standingChecks fits begun today e) ≡ 0 → entryNumber e ≡ 0
   own-number h = go (eqb (entryNumber e) 0) (entryNumber e) (verdict (standingChecks fits begun today e)) refl (sym admission-by ∙ h)
     where
       go : (t : Bool) (n m : ℕ) → eqb n 0 ≡ t → cond t m n ≡ 0 → n ≡ 0
@@ -38,22 +39,19 @@ module _ (fits begun : Bool) (today : Date) (e : Entry) where
       go false n m z q = q
 
 module _ (l : Ledger) (e : Entry) (h : admission l e ≡ 0) where
-  pub is-right : entryNumber e ≡ 0
-  unfolding admission
-  is-right = own-number (inRange l) (l .begun) (l .date) e h
-
-  pub is-kind : (1 ≤ e .kind) × (e .kind ≤ 9)
-  is-kind = right.is-kind e is-right
+  pub is-right : fieldNumber e ≡ 0
+  unfolding admission entryNumber entryChecks fieldNumber verdict
+  is-right = first (not (leb (kindOf (e .kind) .since) 1)) 2 (fieldNumber e) refl (own-number (inRange l) (l .begun) (l .date) e h) .1
 
   pub is-real : real (e .date) ≡ true
   is-real = right.is-real e is-right
 
   pub is-ranged : inRange l ≡ true
-  unfolding admission entryChecks standingChecks
+  unfolding admission entryChecks fieldChecks standingChecks
   is-ranged = not-false (inRange l) (clear _ refl h 6)
 
   not-begun-checked : not (l .begun) && not (eqb (e .kind) 1) ≡ false
-  unfolding admission entryChecks standingChecks
+  unfolding admission entryChecks fieldChecks standingChecks
   not-begun-checked = clear _ refl h 7
 
   -- another kind than TERMS comes to a ledger that has begun
@@ -63,12 +61,3 @@ module _ (l : Ledger) (e : Entry) (h : admission l e ≡ 0) where
       go : (b : Bool) → not b && true ≡ false → b ≡ true
       go true q = refl
       go false q = sym q
-
-  pub a-fits : 2 ≤ e .kind → e .kind ≤ 7 → e .a < 16
-  a-fits = right.a-fits e is-right
-
-  pub b-fits : e .kind ≡ 4 → e .b < 16
-  b-fits = right.b-fits e is-right
-
-  pub transfer-fits : e .kind ≡ 4 → (e .w1 ≤ 1000000000) × (e .a ≡ e .b → ⊥)
-  transfer-fits = right.transfer-fits e is-right

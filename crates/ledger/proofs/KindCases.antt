@@ -1,74 +1,43 @@
--- What depends on the kind is a list of cases, which computes where the kind is known; which kinds concern one account follows from the three comparisons.
-use Prim.Native.Nat.{ℕ, _≤_}
-use mathlib.Core.Path.{_∙_, _≡_, ap, sym}
-use mathlib.Core.Bool.{Bool, true, false, cond, _&&_, _||_}
-use native.Mathlib.Omega.{arith}
-use lib.Dec.{leb, eqb}
-use borrow.Author.Tests.{leb-true, leb-false, eqb-false, ne-eqb}
-use Rattle.tariff.specs.Terms.{termsInRange}
-use Rattle.tariff.specs.Bill.{pricesInRange}
-use Rattle.tariff.specs.declared.terms.Terms.{Terms}
-use Rattle.tariff.proofs.Bools.{or-left, or-right}
-use Rattle.ledger.specs.Entries.{termsOf, pricesOf, someUnits, wordsInRange}
-use Rattle.ledger.specs.Terms.{postTerms}
-use Rattle.ledger.specs.Enrol.{enrolment}
-use Rattle.ledger.specs.Deliver.{delivery}
-use Rattle.ledger.specs.Transfer.{postTransfer}
-use Rattle.ledger.specs.Trade.{trade}
-use Rattle.ledger.specs.Measure.{measurement}
-use Rattle.ledger.specs.Usage.{usage}
-use Rattle.ledger.specs.Closing.{postClosing}
-use Rattle.ledger.specs.Posting.{concernsSeveral, postSeveral, changeOf}
-use Rattle.ledger.specs.declared.state.Account.{Account}
-use Rattle.ledger.specs.declared.state.Ledger.{Ledger}
-use Rattle.ledger.specs.declared.entries.Entry.{Entry}
-use Rattle.ledger.specs.declared.answers.Change.{Change}
-use Rattle.ledger.specs.declared.answers.Posted.{Posted}
+-- A table has for a kind what the row that names it says, or what is said of a kind that no row names.
+use Prim.Native.Nat.{ℕ}
+use mathlib.Core.Path.{_≡_, refl, sym, ap, _∙_}
+use mathlib.Core.List.{List, [], _∷_}
+use lib.Dec.{eqb}
+use borrow.Author.Tests.{eqb-true, ne-eqb}
+use Rattle.tariff.proofs.Bools.{either}
+use Rattle.ledger.specs.Kinds.{lookup}
 
-abbrev pub wordsBy : Entry → ℕ → Bool
-wordsBy e n =
-    cond (eqb n 1) (termsInRange (termsOf e))
-    (cond (eqb n 2) (leb (e .w1) 300000 && leb (e .w2) 1000000000)
-    (cond (eqb n 3) (leb (e .w1) 1000000000 && leb (e .w2) 1000000000)
-    (cond (eqb n 4) (someUnits (e .w1) && someUnits (e .w2))
-    (cond (eqb n 5) (someUnits (e .w1))
-    (cond (eqb n 6) (leb (e .w1) 300000)
-    (cond (eqb n 7) (leb (e .w1) 100000000)
-    (cond (eqb n 9) (pricesInRange (pricesOf e))
-    true)))))))
+-- P of each row, where it is the kind's
+infixr 67 _then_
+pub data Each {A : Type 0} (P : A → Type 0) (kind : ℕ) : List (ℕ × A) → Type 0 where
+  done : Each P kind []
+  _then_ : {r : ℕ × A} {rest : List (ℕ × A)} → (kind ≡ r .0 → P (r .1)) → Each P kind rest → Each P kind (r ∷ rest)
 
-pub words-at : (e : Entry) (n : ℕ) → e .kind ≡ n → wordsInRange e ≡ wordsBy e n
-unfolding wordsInRange
-words-at e n k = ap (wordsBy e) k
+-- P of what the table has
+pub each : {A : Type 0} (P : A → Type 0) (kind : ℕ) {table : List (ℕ × A)} (x : A) → Each P kind table → P x → P (lookup kind table x)
+unfolding lookup
+each P kind x done p = p
+each P kind x (_then_ {r} {rest} row rows) p =
+    either P (eqb kind (r .0)) (r .1) (lookup kind rest x) (λ t. row (eqb-true kind (r .0) t)) (λ _. each P kind x rows p)
 
-abbrev severalBy : Ledger → Entry → ℕ → Posted
-severalBy l e n = cond (eqb n 1) (postTerms l e) (cond (eqb n 4) (postTransfer l e) (postClosing l e))
+-- R, and that no row is the kind's: nested as the last arm of a `match` has it
+abbrev pub Absent : {A : Type 0} → Type 0 → ℕ → List (ℕ × A) → Type 0
+Absent R kind [] = R
+Absent R kind (r ∷ rest) = Absent (R × (kind ≡ r .0 → ⊥)) kind rest
 
-pub several-at : (l : Ledger) (e : Entry) (n : ℕ) (r : Posted) → e .kind ≡ n → r ≡ severalBy l e n → r ≡ postSeveral l e
-unfolding postSeveral
-several-at l e n r k p = p ∙ ap (severalBy l e) (sym k)
+inner : {A : Type 0} (R : Type 0) (kind : ℕ) (table : List (ℕ × A)) → Absent R kind table → R
+inner R kind [] a = a
+inner R kind (r ∷ rest) a = inner (R × (kind ≡ r .0 → ⊥)) kind rest a .0
 
-abbrev changeBy : Terms → Account → Entry → ℕ → Change
-changeBy t a e n =
-    cond (eqb n 2) (enrolment t a e)
-    (cond (eqb n 3) (delivery t a e)
-    (cond (eqb n 5) (trade a e)
-    (cond (eqb n 6) (measurement a e)
-    (usage a e))))
+absent-by : {A : Type 0} (R : Type 0) (kind : ℕ) (table : List (ℕ × A)) (x : A) → Absent R kind table → x ≡ lookup kind table x
+unfolding lookup
+absent-by R kind [] x a = refl
+absent-by R kind (r ∷ rest) x a =
+    let more : Type 0 = R × (kind ≡ r .0 → ⊥) in rw (ne-eqb kind (r .0) (inner more kind rest a .1)) (absent-by more kind rest x a)
 
-pub change-at : (t : Terms) (a : Account) (e : Entry) (n : ℕ) (r : Change) → e .kind ≡ n → r ≡ changeBy t a e n → r ≡ changeOf t a e
-unfolding changeOf
-change-at t a e n r k p = p ∙ ap (changeBy t a e) (sym k)
+pub absent : {A : Type 0} (kind : ℕ) (table : List (ℕ × A)) (x y : A) → Absent (Unit {0}) kind table → y ≡ x → y ≡ lookup kind table x
+absent kind table x y a p = p ∙ absent-by (Unit {0}) kind table x a
 
--- ---- which kinds concern one account
-
-pub several-closes : (k : ℕ) → concernsSeveral k ≡ true → (k ≡ 1 → ⊥) → (k ≡ 4 → ⊥) → 8 ≤ k
-unfolding concernsSeveral
-several-closes k s n1 n4 = leb-true 8 k (rw (ne-eqb k 1 n1, ne-eqb k 4 n4) at s)
-
-pub concerns-one : (k : ℕ) → concernsSeveral k ≡ false → (k ≡ 1 → ⊥) × (k ≡ 4 → ⊥) × (k ≤ 7)
-unfolding concernsSeveral
-concerns-one k s =
-    let two : eqb k 1 || eqb k 4 ≡ false = or-left (eqb k 1 || eqb k 4) (leb 8 k) s in
-    let small = leb-false 8 k (or-right (eqb k 1 || eqb k 4) (leb 8 k) s) in
-    (eqb-false k 1 (or-left (eqb k 1) (eqb k 4) two), eqb-false k 4 (or-right (eqb k 1) (eqb k 4) two), omega (arith, small))
+-- the kind is n, and y is what the table has for n
+pub at : {A : Type 0} (kind : ℕ) {n : ℕ} (table : List (ℕ × A)) (x y : A) → kind ≡ n → y ≡ lookup n table x → y ≡ lookup kind table x
+at kind table x y k p = p ∙ sym (ap (λ m. lookup m table x) k)

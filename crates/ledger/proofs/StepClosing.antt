@@ -26,7 +26,7 @@ use Rattle.ledger.specs.declared.entries.Entry.{Entry}
 use Rattle.ledger.specs.declared.answers.Report.{Report}
 use Rattle.ledger.proofs.Verdicts.{clear}
 use Rattle.ledger.proofs.Bounded.{begun-ranged}
-use Rattle.ledger.proofs.Admitted.{is-kind, is-begun, is-real}
+use Rattle.ledger.proofs.Admitted.{is-begun, is-real}
 use Rattle.ledger.proofs.ClosedAccounts.{openOwed, openDays, reportMoves, reportDays, accounted, account-closed, account-reported}
 use Rattle.ledger.proofs.OneStep.{Sound, Taken, Step, gainAt, reportAt}
 
@@ -45,7 +45,7 @@ closed-ranged t e (x ∷ xs) h =
     rw (and-right (accountInRange (closedAccount t e x .day)) (accountInRange (closedAccount t e x .account)) (and-left (staysInRange t e x) (everyAccount (staysInRange t e) xs) h))
     (closed-ranged t e xs (and-right (staysInRange t e x) (everyAccount (staysInRange t e) xs) h))
 
-module _ (l : Ledger) (e : Entry) (s : Sound l) (h : admission l e ≡ 0) (c : 8 ≤ e .kind) where
+module _ (l : Ledger) (e : Entry) (s : Sound l) (h : admission l e ≡ 0) (c : 8 ≤ e .kind) (d : e .kind ≤ 9) where
   -- no closing is of another kind
   isnt : (m : ℕ) → m < 8 → eqb (e .kind) m ≡ false
   isnt m q = ne-eqb (e .kind) m (λ z. omega arith)
@@ -55,7 +55,7 @@ module _ (l : Ledger) (e : Entry) (s : Sound l) (h : admission l e ≡ 0) (c : 8
     where
       go : (t : Bool) → eqb (e .kind) 8 ≡ t → t || eqb (e .kind) 9 ≡ true
       go true z = refl
-      go false z = eq-eqb (e .kind) 9 (omega (arith, eqb-false (e .kind) 8 z, is-kind l e h))
+      go false z = eq-eqb (e .kind) 9 (omega (arith, eqb-false (e .kind) 8 z))
 
   begun : l .begun ≡ true
   begun = is-begun l e h (λ z. omega arith)
@@ -102,6 +102,6 @@ module _ (l : Ledger) (e : Entry) (s : Sound l) (h : admission l e ≡ 0) (c : 8
         parties = λ z. absurd (omega (arith, z));
       }
 
-module _ (l : Ledger) (b : List ℕ) (s : Sound l) (h : admission l (entryOf b) ≡ 0) (c : 8 ≤ entryOf b .kind) where
+module _ (l : Ledger) (b : List ℕ) (s : Sound l) (h : admission l (entryOf b) ≡ 0) (c : 8 ≤ entryOf b .kind) (d : entryOf b .kind ≤ 9) where
   pub step-closed : verdict (closingChecks l (entryOf b)) ≡ 0 → Step l b (closed l (entryOf b))
-  step-closed o = record { kept = λ z. absurd (true≢false (unfold closed in z)); taken = λ _. takes-closing l (entryOf b) s h c o }
+  step-closed o = record { kept = λ z. absurd (true≢false (unfold closed in z)); taken = λ _. takes-closing l (entryOf b) s h c d o }

@@ -14,6 +14,8 @@ use Rattle.tariff.specs.declared.terms.Terms.{Terms}
 use Rattle.tariff.specs.declared.terms.Capacity.{Capacity}
 use Rattle.tariff.proofs.Bools.{and-left, and-right, either}
 use Rattle.tariff.proofs.Laws.{sum-value, more-value, less-value, amount-value}
+use Rattle.ledger.specs.Kinds as kinds
+use Rattle.ledger.specs.Kinds.{lookup, kindOf}
 use Rattle.ledger.specs.Checks.{verdict}
 use Rattle.ledger.specs.Entries.{termsOf, companySells}
 use Rattle.ledger.specs.State.{nobody, accountAt, withBank, withMonth, withMarks, withMeasure, withCapacity, withAccount}
@@ -32,7 +34,8 @@ use Rattle.ledger.specs.declared.state.Account.{Account}
 use Rattle.ledger.specs.declared.state.Ledger.{Ledger}
 use Rattle.ledger.specs.declared.entries.Entry.{Entry}
 use Rattle.ledger.proofs.Verdicts.{clear}
-use Rattle.ledger.proofs.Admitted.{is-begun, a-fits, b-fits, transfer-fits}
+use Rattle.ledger.proofs.RightEntries.{a-fits, b-fits, transfer-fits}
+use Rattle.ledger.proofs.Admitted.{is-begun, is-right}
 use Rattle.ledger.proofs.ClosedAccounts.{openOwed, openDays, grows}
 use Rattle.ledger.proofs.OneStep.{Sound, Taken, gainAt, size-stored, account-stored, ranged-stored, same-debt, same-days, same-rate, stores}
 
@@ -106,7 +109,7 @@ module _ (l : Ledger) (e : Entry) (s : Sound l) (h : admission l e ≡ 0) where
   begun-before : (n : ℕ) → e .kind ≡ n → (n ≡ 1 → ⊥) → l .begun ≡ true
   begun-before n is d = is-begun l e h (λ z. d (sym is ∙ z))
 
-  pub takes-terms : e .kind ≡ 1 → verdict (termsChecks l e) ≡ 0 → Taken l e (plain 0) (termsNext l e)
+  pub takes-terms : e .kind ≡ kinds.TERMS → verdict (termsChecks l e) ≡ 0 → Taken l e (plain 0) (termsNext l e)
   unfolding bankOf
   takes-terms is o =
       record {
@@ -126,32 +129,32 @@ module _ (l : Ledger) (e : Entry) (s : Sound l) (h : admission l e ≡ 0) where
       reworks : (f : Account → ℤ) → ((c : Capacity) (a : Account) → f (withCapacity a c) ≡ f a) → (i : ℕ) → f (accountAt (termsNext l e) i) ≡ f (accountAt l i)
       reworks f g i = ap f (account-reworked l e i) ∙ rework-keeps f (termsOf e) (accountAt l i) g
 
-  pub takes-enrol : e .kind ≡ 2 → verdict (enrolChecks (l .terms) old e) ≡ 0 → Taken l e (plain 0) (withAccount l (e .a) (enrolled (l .terms) e))
+  pub takes-enrol : e .a < 16 → e .kind ≡ kinds.ENROL → verdict (enrolChecks (l .terms) old e) ≡ 0 → Taken l e (plain 0) (withAccount l (e .a) (enrolled (l .terms) e))
   unfolding enrolChecks enrolled newAccount openBank
-  takes-enrol is o =
+  takes-enrol i is o =
       let shut : old .opened ≡ false = clear _ refl o 1 in
-      stores e 2 is refl l (enrolled (l .terms) e) (pos (e .w2)) refl refl s (begun-before 2 is (λ z. omega (arith, z))) (a-fits l e h (omega arith) (omega arith))
+      stores e 2 is refl l (enrolled (l .terms) e) (pos (e .w2)) refl refl s (begun-before 2 is (λ z. omega (arith, z))) i
       (not-false (accountInRange (enrolled (l .terms) e)) (clear _ refl o 4))
       (amount-value (record { 0 = e .w2 }) ∙ sym (ap (λ (z : ℤ). z +ℤ pos (e .w2)) (not-chosen (old .opened) (old .bank .0) (pos 0) shut) ∙ +ℤ-idl (pos (e .w2))))
       (sym (not-chosen (old .opened) (old .owed .0) (pos 0) shut))
       (sym (not-chosen (old .opened) (pos (old .«violation_days»)) (pos 0) shut))
       (λ i. refl)
 
-  pub takes-deliver : e .kind ≡ 3 → verdict (deliverChecks (l .terms .retainage) old e) ≡ 0 → Taken l e (plain 0) (withAccount l (e .a) (afterDelivery (l .terms .retainage) old e))
+  pub takes-deliver : e .a < 16 → e .kind ≡ kinds.DELIVER → verdict (deliverChecks (l .terms .retainage) old e) ≡ 0 → Taken l e (plain 0) (withAccount l (e .a) (afterDelivery (l .terms .retainage) old e))
   unfolding deliverChecks afterDelivery delivered withMarks withMonth withBank openBank
-  takes-deliver is o =
+  takes-deliver i is o =
       let amount = amountUnder (l .terms .retainage) e in
-      stores e 3 is refl l (afterDelivery (l .terms .retainage) old e) (amount .0) refl refl s (begun-before 3 is (λ z. omega (arith, z))) (a-fits l e h (omega arith) (omega arith))
+      stores e 3 is refl l (afterDelivery (l .terms .retainage) old e) (amount .0) refl refl s (begun-before 3 is (λ z. omega (arith, z))) i
       (not-false (accountInRange (afterDelivery (l .terms .retainage) old e)) (clear _ refl o 2))
       (grows (old .opened) (sum (old .bank) amount .0) (old .bank .0) (amount .0) (not-false (old .opened) (clear _ refl o 0)) (sum-value (old .bank) amount))
       refl
       refl
       (λ i. refl)
 
-  pub takes-trade : e .kind ≡ 5 → verdict (tradeChecks old e) ≡ 0 → Taken l e (plain 0) (withAccount l (e .a) (afterTrade old e))
+  pub takes-trade : e .a < 16 → e .kind ≡ kinds.TRADE → verdict (tradeChecks old e) ≡ 0 → Taken l e (plain 0) (withAccount l (e .a) (afterTrade old e))
   unfolding tradeChecks afterTrade traded withMonth withBank openBank
-  takes-trade is o =
-      stores e 5 is refl l (afterTrade old e) (cond (companySells e) (pos (e .w1)) (negℤ (pos (e .w1)))) refl refl s (begun-before 5 is (λ z. omega (arith, z))) (a-fits l e h (omega arith) (omega arith))
+  takes-trade i is o =
+      stores e 5 is refl l (afterTrade old e) (cond (companySells e) (pos (e .w1)) (negℤ (pos (e .w1)))) refl refl s (begun-before 5 is (λ z. omega (arith, z))) i
       (not-false (accountInRange (afterTrade old e)) (clear _ refl o 2))
       (grows (old .opened) (cond (companySells e) (more (old .bank) (record { 0 = e .w1 })) (less (old .bank) (record { 0 = e .w1 })) .0) (old .bank .0)
       (cond (companySells e) (pos (e .w1)) (negℤ (pos (e .w1)))) (not-false (old .opened) (clear _ refl o 0)) (by-side (companySells e)))
@@ -163,20 +166,20 @@ module _ (l : Ledger) (e : Entry) (s : Sound l) (h : admission l e ≡ 0) where
       by-side true = more-value (old .bank) (record { 0 = e .w1 })
       by-side false = less-value (old .bank) (record { 0 = e .w1 })
 
-  pub takes-measure : e .kind ≡ 6 → verdict (measureChecks old e) ≡ 0 → Taken l e (plain 0) (withAccount l (e .a) (afterMeasure old e))
+  pub takes-measure : e .a < 16 → e .kind ≡ kinds.MEASURE → verdict (measureChecks old e) ≡ 0 → Taken l e (plain 0) (withAccount l (e .a) (afterMeasure old e))
   unfolding measureChecks afterMeasure remeasured withMarks withMeasure openBank
-  takes-measure is o =
-      stores e 6 is refl l (afterMeasure old e) (pos 0) refl refl s (begun-before 6 is (λ z. omega (arith, z))) (a-fits l e h (omega arith) (omega arith))
+  takes-measure i is o =
+      stores e 6 is refl l (afterMeasure old e) (pos 0) refl refl s (begun-before 6 is (λ z. omega (arith, z))) i
       (not-false (accountInRange (afterMeasure old e)) (clear _ refl o 3))
       (sym (+ℤ-idr (openBank old)))
       refl
       refl
       (λ i. sym (either-way (eqb (e .a) i) (pos 0)))
 
-  pub takes-usage : e .kind ≡ 7 → verdict (usageChecks old e) ≡ 0 → Taken l e (plain 0) (withAccount l (e .a) (afterUsage old e))
+  pub takes-usage : e .a < 16 → e .kind ≡ kinds.USAGE → verdict (usageChecks old e) ≡ 0 → Taken l e (plain 0) (withAccount l (e .a) (afterUsage old e))
   unfolding usageChecks afterUsage metered withMarks withMonth openBank
-  takes-usage is o =
-      stores e 7 is refl l (afterUsage old e) (pos 0) refl refl s (begun-before 7 is (λ z. omega (arith, z))) (a-fits l e h (omega arith) (omega arith))
+  takes-usage i is o =
+      stores e 7 is refl l (afterUsage old e) (pos 0) refl refl s (begun-before 7 is (λ z. omega (arith, z))) i
       (not-false (accountInRange (afterUsage old e)) (clear _ refl o 2))
       (sym (+ℤ-idr (openBank old)))
       refl
@@ -191,11 +194,12 @@ module _ (l : Ledger) (e : Entry) (s : Sound l) (h : admission l e ≡ 0) where
   abbrev half : Ledger
   half = withAccount l (e .a) (giver l e)
 
-  pub takes-transfer : e .kind ≡ 4 → verdict (transferChecks l e) ≡ 0 → Taken l e (plain 0) (withAccount half (e .b) (receiver l e))
-  unfolding transferChecks bankOf
+  pub takes-transfer : e .kind ≡ kinds.TRANSFER → verdict (transferChecks l e) ≡ 0 → Taken l e (plain 0) (withAccount half (e .b) (receiver l e))
+  unfolding transferChecks bankOf kindOf lookup
   takes-transfer is o =
-      let ha : e .a < 16 = a-fits l e h (omega arith) (omega arith) in
-      let hb : e .b < 16 = b-fits l e h is in
+      let two : kindOf (e .kind) .accounts ≡ 2 = rw is in
+      let ha : e .a < 16 = a-fits e (is-right l e h) (omega arith) in
+      let hb : e .b < 16 = b-fits e (is-right l e h) (omega arith) in
       let both : old .opened && other .opened ≡ true = not-false (old .opened && other .opened) (clear _ refl o 0) in
       let fit : accountInRange (giver l e) && accountInRange (receiver l e) ≡ true = not-false (accountInRange (giver l e) && accountInRange (receiver l e)) (clear _ refl o 2) in
       let n′ : length (half .accounts) ≡ 16 = size-stored l (e .a) (giver l e) (s .sized) ha in
@@ -209,7 +213,7 @@ module _ (l : Ledger) (e : Entry) (s : Sound l) (h : admission l e ≡ 0) where
             };
         banks = λ i.
             ap openBank (after′ i)
-            ∙ moves-both i (transfer-fits l e h is .1) (and-left (old .opened) (other .opened) both) (and-right (old .opened) (other .opened) both) (eqb (e .b) i) (eqb (e .a) i) refl refl
+            ∙ moves-both i (transfer-fits e (is-right l e h) is .1) (and-left (old .opened) (other .opened) both) (and-right (old .opened) (other .opened) both) (eqb (e .b) i) (eqb (e .a) i) refl refl
             ∙ ap (λ (z : ℤ). openBank (accountAt l i) +ℤ z) (sym (ap (λ (m : ℕ). gainAt m l e (plain 0) i) is));
         debts = λ i. ap openOwed (after′ i) ∙ keeps-both openOwed i (receiver-debt l e) (giver-debt l e) (eqb (e .b) i) (eqb (e .a) i) refl refl ∙ same-debt e 4 is refl i (openOwed (accountAt l i));
         days = λ i. ap openDays (after′ i) ∙ keeps-both openDays i (receiver-days l e) (giver-days l e) (eqb (e .b) i) (eqb (e .a) i) refl refl ∙ same-days e 4 is refl i (openDays (accountAt l i));

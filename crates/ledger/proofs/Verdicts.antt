@@ -14,7 +14,7 @@ abbrev pub numbered : List Check → Bool
 numbered [] = true
 numbered (c ∷ cs) = not (eqb (c .1) 0) && numbered cs
 
-first : (b : Bool) (n rest : ℕ) → not (eqb n 0) ≡ true → cond b n rest ≡ 0 → (b ≡ false) × (rest ≡ 0)
+pub first : (b : Bool) (n rest : ℕ) → not (eqb n 0) ≡ true → cond b n rest ≡ 0 → (b ≡ false) × (rest ≡ 0)
 first true n rest t h = absurd (false≢true (rw h at t))
 first false n rest t h = (refl, h)
 

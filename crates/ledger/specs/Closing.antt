@@ -18,6 +18,7 @@ use Rattle.tariff.specs.declared.bill.Totals.{Totals}
 use Rattle.tariff.specs.declared.dates.Date.{Date}
 use Rattle.tariff.specs.declared.terms.Capacity.{Capacity}
 use Rattle.tariff.specs.declared.terms.Terms.{Terms}
+use Rattle.ledger.specs.Kinds as kinds
 use Rattle.ledger.specs.Checks.{Check, verdict}
 use Rattle.ledger.specs.Entries.{pricesOf}
 use Rattle.ledger.specs.State.{noTotals}
@@ -169,7 +170,7 @@ notOpen a = record { day = a; account = a; report = quiet }
 unfoldable pub closedAccount : Terms → Entry → Account → Closed
 closedAccount t e a =
     cond (a .opened)
-    (cond (eqb (e .kind) 9) (closedMonth (e .date) t (pricesOf e) a) (closedDay (e .date) a))
+    (cond (eqb (e .kind) kinds.CLOSE-MONTH) (closedMonth (e .date) t (pricesOf e) a) (closedDay (e .date) a))
     (notOpen a)
 
 unfoldable pub accountClosed : Terms → Entry → Account → Account
@@ -183,7 +184,7 @@ reportOf t e a = closedAccount t e a .report
 -- "closing of the wrong kind; any closing on 31 December 2099"
 unfoldable pub wrongClosing : Entry → Bool
 wrongClosing e =
-    (lastOfMonth (e .date) && eqb (e .kind) 8) || (not (lastOfMonth (e .date)) && eqb (e .kind) 9) || lastDate (e .date)
+    (lastOfMonth (e .date) && eqb (e .kind) kinds.CLOSE-DAY) || (not (lastOfMonth (e .date)) && eqb (e .kind) kinds.CLOSE-MONTH) || lastDate (e .date)
 
 -- "27 closing while an open account lacks DELIVER, on the measurement day MEASURE, or at month's end USAGE" is what this is not
 unfoldable pub complete : Date → Account → Bool

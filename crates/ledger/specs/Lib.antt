@@ -1,4 +1,5 @@
 pub mod Checks
+pub mod Kinds
 pub mod Entries
 pub mod State
 pub mod Ranges

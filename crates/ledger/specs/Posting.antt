@@ -1,13 +1,15 @@
 -- A posting, whole: bytes of any length and content, to any ledger.
 use Prim.Native.Nat.{ℕ}
-use mathlib.Core.Bool.{Bool, cond, not, _&&_, _||_}
+use mathlib.Core.Bool.{Bool, cond, not, _&&_}
 use mathlib.Core.List.{List, [], _∷_, _++_}
-use lib.Dec.{eqb, leb}
+use lib.Dec.{eqb}
 use lib.ListN.{length}
 use Rattle.tariff.specs.Dates.{sameDate}
 use Rattle.tariff.specs.declared.dates.Date.{Date}
 use Rattle.tariff.specs.declared.terms.Terms.{Terms}
 use Rattle.ledger.specs.Checks.{Check, verdict}
+use Rattle.ledger.specs.Kinds as kinds
+use Rattle.ledger.specs.Kinds.{lookup, kindOf}
 use Rattle.ledger.specs.Entries.{entryOf, entryChecks}
 use Rattle.ledger.specs.Ranges.{inRange}
 use Rattle.ledger.specs.State.{accountAt, withAccount}
@@ -30,7 +32,7 @@ use Rattle.ledger.specs.declared.answers.Posted.{Posted}
 unfoldable pub standingChecks : Bool → Bool → Date → Entry → List Check
 standingChecks fits begun today e =
     (not fits, 20)
-    ∷ (not begun && not (eqb (e .kind) 1), 21)
+    ∷ (not begun && not (eqb (e .kind) kinds.TERMS), 21)
     ∷ (begun && not (sameDate (e .date) today), 22)
     ∷ []
 
@@ -38,29 +40,37 @@ standingChecks fits begun today e =
 unfoldable pub admission : Ledger → Entry → ℕ
 admission l e = verdict (entryChecks e ++ standingChecks (inRange l) (l .begun) (l .date) e)
 
--- TERMS, TRANSFER and the closings concern several accounts, the other kinds the one that the entry names.
-unfoldable pub concernsSeveral : ℕ → Bool
-concernsSeveral kind = eqb kind 1 || eqb kind 4 || leb 8 kind
-
+-- the kinds that name no account, or two; any other is refused, as 2 says already
 unfoldable pub postSeveral : Ledger → Entry → Posted
 postSeveral l e =
-    cond (eqb (e .kind) 1) (postTerms l e) (cond (eqb (e .kind) 4) (postTransfer l e) (postClosing l e))
+    lookup (e .kind)
+    ((kinds.TERMS, postTerms l e)
+    ∷ (kinds.TRANSFER, postTransfer l e)
+    ∷ (kinds.CLOSE-DAY, postClosing l e)
+    ∷ (kinds.CLOSE-MONTH, postClosing l e)
+    ∷ [])
+    (refused l 2)
 
--- what a posting makes of the one account that it concerns
+-- those that name one: what a posting makes of that account
 unfoldable pub changeOf : Terms → Account → Entry → Change
 changeOf t a e =
-    cond (eqb (e .kind) 2) (enrolment t a e)
-    (cond (eqb (e .kind) 3) (delivery t a e)
-    (cond (eqb (e .kind) 5) (trade a e)
-    (cond (eqb (e .kind) 6) (measurement a e)
-    (usage a e))))
+    lookup (e .kind)
+    ((kinds.ENROL, enrolment t a e)
+    ∷ (kinds.DELIVER, delivery t a e)
+    ∷ (kinds.TRADE, trade a e)
+    ∷ (kinds.MEASURE, measurement a e)
+    ∷ (kinds.USAGE, usage a e)
+    ∷ [])
+    (record { number = 2; account = a })
 
 unfoldable pub stored : Ledger → ℕ → Change → Posted
 stored l i c = settle l (c .number) (withAccount l i (c .account))
 
 unfoldable pub postKind : Ledger → Entry → Posted
 postKind l e =
-    cond (concernsSeveral (e .kind)) (postSeveral l e) (stored l (e .a) (changeOf (l .terms) (accountAt l (e .a)) e))
+    cond (eqb (kindOf (e .kind) .accounts) 1)
+    (stored l (e .a) (changeOf (l .terms) (accountAt l (e .a)) e))
+    (postSeveral l e)
 
 unfoldable pub postEntry : Ledger → Entry → Posted
 postEntry l e = cond (eqb (admission l e) 0) (postKind l e) (refused l (admission l e))

@@ -7,6 +7,7 @@ ghost use Rattle.tariff.specs.Amounts.{size, sizeMills};
 ghost use Rattle.tariff.specs.Dates.{real};
 ghost use Rattle.tariff.specs.Terms.{termsInRange};
 ghost use Rattle.tariff.specs.Bill.{pricesInRange};
+ghost use Rattle.ledger.specs.Kinds.{CLOSE-DAY, CLOSE-MONTH};
 ghost use Rattle.ledger.specs.Entries.{pricesOf};
 ghost use Rattle.ledger.specs.Ranges.{accountInRange, everyAccount};
 ghost use Rattle.ledger.specs.Posting.{admission};
@@ -17,6 +18,7 @@ use crate::answers::Report;
 use crate::answers::quiet;
 use crate::answers::refused;
 use crate::entries::Entry;
+use crate::kinds;
 use crate::ranges::account_in_range;
 use crate::state::Account;
 use crate::state::Ledger;
@@ -244,13 +246,13 @@ fn close_month(d: Date, t: Terms, p: Prices, a: Account) -> Closed
 }
 
 fn close_account(t: Terms, e: Entry, a: Account) -> Closed
-    requires { ⌜ (real (e .date) ≡ true) × (accountInRange a ≡ true) × (termsInRange t ≡ true) × (e .kind ≡ 9 → pricesInRange (pricesOf e) ≡ true) ⌝ }
+    requires { ⌜ (real (e .date) ≡ true) × (accountInRange a ≡ true) × (termsInRange t ≡ true) × (e .kind ≡ CLOSE-MONTH → pricesInRange (pricesOf e) ≡ true) ⌝ }
     requires opened { ⌜ a .opened ≡ true ⌝ }
     ensures { λ r. ⌜ r ≡ closedAccount t e a ⌝ }
 {
     let date = e.date;
     let kind = e.kind;
-    if kind == 9 {
+    if kind == kinds::CLOSE_MONTH {
         return close_month(date, t, e.prices(), a);
     }
     close_day(date, a)
@@ -263,7 +265,7 @@ fn wrong_closing(e: Entry) -> bool
     let date = e.date;
     let kind = e.kind;
     let ends = date.last_of_month();
-    (ends & (kind == 8)) | (!ends & (kind == 9)) | date.last_date()
+    (ends & (kind == kinds::CLOSE_DAY)) | (!ends & (kind == kinds::CLOSE_MONTH)) | date.last_date()
 }
 
 fn complete(d: Date, a: Account) -> bool
@@ -286,7 +288,7 @@ struct Closings {
 
 // An account that is not open stays as it is, and has nothing to report.
 fn close_all(l: Ledger, e: Entry) -> Closings
-    requires { ⌜ (admission l e ≡ 0) × (8 ≤ e .kind) ⌝ }
+    requires { ⌜ (admission l e ≡ 0) × (CLOSE-DAY ≤ e .kind) ⌝ }
     ensures closed { λ r. ⌜ (r .ledger ≡ closed l e .ledger) × (r .reports ≡ closed l e .answer .reports) ⌝ }
     ensures complete { λ r. ⌜ r .complete ≡ everyAccount (complete (e .date)) (l .accounts) ⌝ }
     ensures fits { λ r. ⌜ r .fits ≡ everyAccount (staysInRange (l .terms) e) (l .accounts) ⌝ }
@@ -325,7 +327,7 @@ fn close_all(l: Ledger, e: Entry) -> Closings
 }
 
 pub fn post_closing(l: Ledger, e: Entry) -> Posted
-    requires { ⌜ (admission l e ≡ 0) × (8 ≤ e .kind) ⌝ }
+    requires { ⌜ (admission l e ≡ 0) × (CLOSE-DAY ≤ e .kind) ⌝ }
     ensures { λ r. ⌜ r ≡ postClosing l e ⌝ }
 {
     if wrong_closing(e) {

@@ -4,8 +4,9 @@ ghost use mathlib.Core.Bool.{true};
 ghost use Prim.Native.Nat.{_≤_};
 ghost use Rattle.tariff.specs.Amounts.{size};
 ghost use Rattle.tariff.specs.Terms.{termsInRange};
+ghost use Rattle.ledger.specs.Kinds.{DELIVER};
 ghost use Rattle.ledger.specs.Ranges.{accountInRange};
-ghost use Rattle.ledger.specs.Entries.{entryNumber};
+ghost use Rattle.ledger.specs.Entries.{fieldNumber};
 ghost use Rattle.ledger.specs.Deliver.{delivered, delivery};
 use crate::answers::Change;
 use crate::checks::refuse;
@@ -51,7 +52,7 @@ fn delivered(m: Month, a: Account, amount: Units, back_cast: Quantity) -> Accoun
 }
 
 pub fn delivery(t: Terms, a: Account, e: Entry) -> Change
-    requires { ⌜ (entryNumber e ≡ 0) × (e .kind ≡ 3) × (accountInRange a ≡ true) × (termsInRange t ≡ true) ⌝ }
+    requires { ⌜ (fieldNumber e ≡ 0) × (e .kind ≡ DELIVER) × (accountInRange a ≡ true) × (termsInRange t ≡ true) ⌝ }
     ensures { λ r. ⌜ r ≡ delivery t a e ⌝ }
 {
     let date = e.date;

@@ -3,7 +3,8 @@ ghost use mathlib.Core.Path.{_≡_};
 ghost use mathlib.Core.Bool.{true};
 ghost use Prim.Native.Nat.{_≤_};
 ghost use Rattle.tariff.specs.Terms.{termsInRange};
-ghost use Rattle.ledger.specs.Entries.{entryNumber};
+ghost use Rattle.ledger.specs.Kinds.{ENROL};
+ghost use Rattle.ledger.specs.Entries.{fieldNumber};
 ghost use Rattle.ledger.specs.Ranges.{accountInRange};
 ghost use Rattle.ledger.specs.Enrol.{newAccount, enrolment};
 use crate::answers::Change;
@@ -47,7 +48,7 @@ fn new_account(t: Terms, mdq: Dth, opening: Quantity) -> Account
 }
 
 pub fn enrolment(t: Terms, a: Account, e: Entry) -> Change
-    requires { ⌜ (entryNumber e ≡ 0) × (e .kind ≡ 2) × (accountInRange a ≡ true) × (termsInRange t ≡ true) ⌝ }
+    requires { ⌜ (fieldNumber e ≡ 0) × (e .kind ≡ ENROL) × (accountInRange a ≡ true) × (termsInRange t ≡ true) ⌝ }
     ensures { λ r. ⌜ r ≡ enrolment t a e ⌝ }
 {
     let date = e.date;

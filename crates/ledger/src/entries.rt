@@ -2,8 +2,11 @@
 ghost use mathlib.Core.Path.{_≡_};
 ghost use Prim.Native.Nat.{_+_, _<_, _≤_};
 ghost use lib.ListN.{length};
-ghost use Rattle.ledger.specs.Entries.{byteAt, wordAt, entryOf, usesA, usesB, largestFlag, wordsUsed, termsOf, pricesOf, processOnly, wishes, companySells, accountTooHigh, unusedSet, someUnits, wordsInRange, wrongTransfer, entryNumber};
+ghost use Rattle.ledger.specs.Entries.{byteAt, wordAt, entryOf, termsOf, pricesOf, processOnly, wishes, companySells, accountTooHigh, unusedSet, someUnits, wordsInRange, wrongTransfer, entryNumber};
 use crate::checks::refuse;
+use crate::kinds;
+use crate::kinds::Kind;
+use crate::kinds::kind_of;
 use tariff::amounts::Dth;
 use tariff::bill::Prices;
 use tariff::dates::Date;
@@ -84,42 +87,6 @@ pub fn decode(bytes: &[u8]) -> Entry
     }
 }
 
-fn uses_a(kind: u64) -> bool
-    ensures { λ r. ⌜ r ≡ usesA kind ⌝ }
-{
-    (2 <= kind) & (kind <= 7)
-}
-
-fn uses_b(kind: u64) -> bool
-    ensures { λ r. ⌜ r ≡ usesB kind ⌝ }
-{
-    kind == 4
-}
-
-const LARGEST_FLAG: [u64; 10] = [0, 0, 3, 0, 0, 1, 0, 0, 0, 0];
-
-const WORDS_USED: [u64; 10] = [0, 6, 2, 2, 2, 1, 1, 1, 0, 4];
-
-fn largest_flag(kind: u64) -> u64
-    ensures { λ r. ⌜ r ≡ largestFlag kind ⌝ }
-{
-    if kind < 10 {
-        let at = kind as usize;
-        return LARGEST_FLAG[at];
-    }
-    0
-}
-
-fn words_used(kind: u64) -> u64
-    ensures { λ r. ⌜ r ≡ wordsUsed kind ⌝ }
-{
-    if kind < 10 {
-        let at = kind as usize;
-        return WORDS_USED[at];
-    }
-    0
-}
-
 // Units from 1 to 10^9.
 fn some_units(w: u64) -> bool
     ensures { λ r. ⌜ r ≡ someUnits w ⌝ }
@@ -170,28 +137,24 @@ impl Entry {
         self.flags == 0
     }
 
-    fn account_too_high(self) -> bool
-        ensures { λ r. ⌜ r ≡ accountTooHigh self ⌝ }
+    fn account_too_high(self, k: Kind) -> bool
+        ensures { λ r. ⌜ r ≡ accountTooHigh k self ⌝ }
     {
-        let a = uses_a(self.kind) & (16 <= self.a);
-        let b = uses_b(self.kind) & (16 <= self.b);
-        a | b
+        ((1 <= k.accounts) & (16 <= self.a)) | ((2 <= k.accounts) & (16 <= self.b))
     }
 
-    fn unused_set(self) -> bool
-        ensures { λ r. ⌜ r ≡ unusedSet self ⌝ }
+    fn unused_set(self, k: Kind) -> bool
+        ensures { λ r. ⌜ r ≡ unusedSet k self ⌝ }
     {
-        let kind = self.kind;
-        let words = words_used(kind);
-        let a = !uses_a(kind) & !(self.a == 0);
-        let b = !uses_b(kind) & !(self.b == 0);
-        let flags = largest_flag(kind) < self.flags;
-        let w1 = (words < 1) & !(self.w1 == 0);
-        let w2 = (words < 2) & !(self.w2 == 0);
-        let w3 = (words < 3) & !(self.w3 == 0);
-        let w4 = (words < 4) & !(self.w4 == 0);
-        let w5 = (words < 5) & !(self.w5 == 0);
-        let w6 = (words < 6) & !(self.w6 == 0);
+        let a = (k.accounts < 1) & !(self.a == 0);
+        let b = (k.accounts < 2) & !(self.b == 0);
+        let flags = k.flags < self.flags;
+        let w1 = (k.words < 1) & !(self.w1 == 0);
+        let w2 = (k.words < 2) & !(self.w2 == 0);
+        let w3 = (k.words < 3) & !(self.w3 == 0);
+        let w4 = (k.words < 4) & !(self.w4 == 0);
+        let w5 = (k.words < 5) & !(self.w5 == 0);
+        let w6 = (k.words < 6) & !(self.w6 == 0);
         a | b | flags | w1 | w2 | w3 | w4 | w5 | w6
     }
 
@@ -200,22 +163,23 @@ impl Entry {
     {
         let kind = self.kind;
         match kind {
-            1 => self.terms().in_range(),
-            2 => (self.w1 <= 300000) & (self.w2 <= 1000000000),
-            3 => (self.w1 <= 1000000000) & (self.w2 <= 1000000000),
-            4 => some_units(self.w1) & some_units(self.w2),
-            5 => some_units(self.w1),
-            6 => self.w1 <= 300000,
-            7 => self.w1 <= 100000000,
-            9 => self.prices().in_range(),
-            _ => true,
+            kinds::TERMS => self.terms().in_range(),
+            kinds::ENROL => (self.w1 <= 300000) & (self.w2 <= 1000000000),
+            kinds::DELIVER => (self.w1 <= 1000000000) & (self.w2 <= 1000000000),
+            kinds::TRANSFER => some_units(self.w1) & some_units(self.w2),
+            kinds::TRADE => some_units(self.w1),
+            kinds::MEASURE => self.w1 <= 300000,
+            kinds::USAGE => self.w1 <= 100000000,
+            kinds::CLOSE_DAY => true,
+            kinds::CLOSE_MONTH => self.prices().in_range(),
+            _ => false,
         }
     }
 
     fn wrong_transfer(self) -> bool
         ensures { λ r. ⌜ r ≡ wrongTransfer self ⌝ }
     {
-        (self.kind == 4) & ((self.a == self.b) | !(self.w1 == self.w2))
+        (self.kind == kinds::TRANSFER) & ((self.a == self.b) | !(self.w1 == self.w2))
     }
 
     // The number of the first of 2 to 7 that applies, or 0.
@@ -223,10 +187,11 @@ impl Entry {
         ensures { λ r. ⌜ r ≡ entryNumber self ⌝ }
     {
         let date = self.date;
-        let no_kind = !((1 <= self.kind) & (self.kind <= 9));
+        let k = kind_of(self.kind);
+        let no_kind = !(k.since <= 1);
         let no_date = !date.real();
-        let too_high = self.account_too_high();
-        let set = self.unused_set();
+        let too_high = self.account_too_high(k);
+        let set = self.unused_set(k);
         let outside = !self.words_in_range();
         let wrong = self.wrong_transfer();
         let late = refuse(5, set, refuse(6, outside, refuse(7, wrong, 0)));

@@ -5,6 +5,7 @@ mod closing;
 mod deliver;
 mod enrol;
 mod entries;
+mod kinds;
 mod measure;
 mod panels;
 mod postings;
@@ -31,11 +32,11 @@ ghost use Rattle.ledger.specs.Panel.{bankOf, panelOf};
 ghost use Rattle.ledger.specs.MarkedCases.{MarkedCases};
 use crate::answers::refused;
 use crate::entries::decode;
+use crate::kinds::kind_of;
 use crate::panels::open_bank;
 use crate::panels::open_banks;
 use crate::postings::admission;
 use crate::postings::change;
-use crate::postings::concerns_several;
 use crate::postings::post_several;
 use crate::ranges::account_in_range;
 use crate::ranges::in_range;
@@ -105,7 +106,8 @@ pub fn post(mut ledger: Ledger, entry: &[u8]) -> Posted
     if n != 0 {
         return refused(ledger, n);
     }
-    if concerns_several(e.kind) {
+    let k = kind_of(e.kind);
+    if k.accounts != 1 {
         return post_several(ledger, e);
     }
     let i = e.a;

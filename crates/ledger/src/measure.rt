@@ -2,8 +2,9 @@
 ghost use mathlib.Core.Path.{_≡_};
 ghost use mathlib.Core.Bool.{true};
 ghost use Prim.Native.Nat.{_≤_};
+ghost use Rattle.ledger.specs.Kinds.{MEASURE};
 ghost use Rattle.ledger.specs.Ranges.{accountInRange};
-ghost use Rattle.ledger.specs.Entries.{entryNumber};
+ghost use Rattle.ledger.specs.Entries.{fieldNumber};
 ghost use Rattle.ledger.specs.Measure.{remeasured, measurement};
 use crate::answers::Change;
 use crate::checks::refuse;
@@ -28,7 +29,7 @@ fn remeasured(a: Account, mdq: Dth) -> Account
 }
 
 pub fn measurement(a: Account, e: Entry) -> Change
-    requires { ⌜ (entryNumber e ≡ 0) × (e .kind ≡ 6) × (accountInRange a ≡ true) ⌝ }
+    requires { ⌜ (fieldNumber e ≡ 0) × (e .kind ≡ MEASURE) × (accountInRange a ≡ true) ⌝ }
     ensures { λ r. ⌜ r ≡ measurement a e ⌝ }
 {
     let date = e.date;

@@ -1,19 +1,21 @@
 // Which rules a posting meets, by its kind.
 ghost use mathlib.Core.Path.{_≡_};
-ghost use mathlib.Core.Bool.{true, false};
+ghost use mathlib.Core.Bool.{true};
 ghost use mathlib.Core.List.{_++_};
 ghost use Rattle.tariff.specs.Terms.{termsInRange};
 ghost use Rattle.ledger.specs.Checks.{verdict};
-ghost use Rattle.ledger.specs.Entries.{entryChecks, entryNumber};
+ghost use Rattle.ledger.specs.Entries.{entryChecks, fieldNumber};
 ghost use Rattle.ledger.specs.Ranges.{accountInRange};
-ghost use Rattle.ledger.specs.Posting.{standingChecks, admission, concernsSeveral, postSeveral, changeOf};
+ghost use Rattle.ledger.specs.Posting.{standingChecks, admission, postSeveral, changeOf};
 use crate::answers::Change;
 use crate::answers::Posted;
+use crate::answers::refused;
 use crate::checks::refuse;
 use crate::closing::post_closing;
 use crate::deliver::delivery;
 use crate::enrol::enrolment;
 use crate::entries::Entry;
+use crate::kinds;
 use crate::measure::measurement;
 use crate::state::Account;
 use crate::state::Ledger;
@@ -33,41 +35,43 @@ pub fn admission(fits: bool, begun: bool, today: Date, e: Entry) -> u64
     if n != 0 {
         return n;
     }
-    let not_begun = !begun & !(e.kind == 1);
+    let not_begun = !begun & !(e.kind == kinds::TERMS);
     let other_day = begun & !date.same(today);
     refuse(20, !fits, refuse(21, not_begun, refuse(22, other_day, 0)))
 }
 
-// TERMS, TRANSFER and the closings.
-pub fn concerns_several(kind: u64) -> bool
-    ensures { λ r. ⌜ r ≡ concernsSeveral kind ⌝ }
-{
-    (kind == 1) | (kind == 4) | (8 <= kind)
-}
-
+// The kinds that name no account, or two.
 pub fn post_several(l: Ledger, e: Entry) -> Posted
-    requires { ⌜ (admission l e ≡ 0) × (concernsSeveral (e .kind) ≡ true) ⌝ }
+    requires { ⌜ admission l e ≡ 0 ⌝ }
     ensures { λ r. ⌜ r ≡ postSeveral l e ⌝ }
 {
     let kind = e.kind;
     match kind {
-        1 => post_terms(l, e),
-        4 => post_transfer(l, e),
-        _ => post_closing(l, e),
+        kinds::TERMS => return post_terms(l, e),
+        kinds::TRANSFER => return post_transfer(l, e),
+        kinds::CLOSE_DAY => {}
+        kinds::CLOSE_MONTH => {}
+        _ => return refused(l, 2),
     }
+    // One call: with a call in each arm the compiler copies the ledger once more.
+    post_closing(l, e)
 }
 
-// The other kinds, by the account that the entry names.
+// Those that name one, by that account.
 pub fn change(t: Terms, a: Account, e: Entry) -> Change
-    requires { ⌜ (entryNumber e ≡ 0) × (concernsSeveral (e .kind) ≡ false) × (accountInRange a ≡ true) × (termsInRange t ≡ true) ⌝ }
+    requires { ⌜ (fieldNumber e ≡ 0) × (accountInRange a ≡ true) × (termsInRange t ≡ true) ⌝ }
     ensures { λ r. ⌜ r ≡ changeOf t a e ⌝ }
 {
     let kind = e.kind;
     match kind {
-        2 => enrolment(t, a, e),
-        3 => delivery(t, a, e),
-        5 => trade(a, e),
-        6 => measurement(a, e),
-        _ => usage(a, e),
+        kinds::ENROL => enrolment(t, a, e),
+        kinds::DELIVER => delivery(t, a, e),
+        kinds::TRADE => trade(a, e),
+        kinds::MEASURE => measurement(a, e),
+        kinds::USAGE => usage(a, e),
+        _ => Change {
+            number: 2,
+            account: a,
+        },
     }
 }

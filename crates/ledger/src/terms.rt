@@ -2,6 +2,7 @@
 ghost use mathlib.Core.Path.{_≡_};
 ghost use mathlib.Core.Bool.{true};
 ghost use Rattle.tariff.specs.Terms.{termsInRange};
+ghost use Rattle.ledger.specs.Kinds.{TERMS};
 ghost use Rattle.ledger.specs.Ranges.{accountInRange};
 ghost use Rattle.ledger.specs.Posting.{admission};
 ghost use Rattle.ledger.specs.Terms.{reworked, termsNext, postTerms};
@@ -29,7 +30,7 @@ fn reworked(t: Terms, a: Account) -> Account
 }
 
 fn terms_next(l: Ledger, e: Entry) -> Ledger
-    requires { ⌜ (admission l e ≡ 0) × (e .kind ≡ 1) ⌝ }
+    requires { ⌜ (admission l e ≡ 0) × (e .kind ≡ TERMS) ⌝ }
     ensures { λ r. ⌜ r ≡ termsNext l e ⌝ }
 {
     let terms = e.terms();
@@ -48,7 +49,7 @@ fn terms_next(l: Ledger, e: Entry) -> Ledger
 }
 
 pub fn post_terms(l: Ledger, e: Entry) -> Posted
-    requires { ⌜ (admission l e ≡ 0) × (e .kind ≡ 1) ⌝ }
+    requires { ⌜ (admission l e ≡ 0) × (e .kind ≡ TERMS) ⌝ }
     ensures { λ r. ⌜ r ≡ postTerms l e ⌝ }
 {
     let date = e.date;

@@ -3,8 +3,9 @@ ghost use mathlib.Core.Path.{_≡_};
 ghost use mathlib.Core.Bool.{true, cond};
 ghost use Prim.Native.Nat.{_≤_};
 ghost use Rattle.tariff.specs.Limits.{aboveMaximum, belowMinimum};
+ghost use Rattle.ledger.specs.Kinds.{TRADE};
 ghost use Rattle.ledger.specs.Ranges.{accountInRange};
-ghost use Rattle.ledger.specs.Entries.{entryNumber};
+ghost use Rattle.ledger.specs.Entries.{fieldNumber};
 ghost use Rattle.ledger.specs.Trade.{traded, trade};
 use crate::answers::Change;
 use crate::checks::refuse;
@@ -52,7 +53,7 @@ fn past_limit(sells: bool, m: Month, bcq: Dth, bank: Units) -> bool
 }
 
 pub fn trade(a: Account, e: Entry) -> Change
-    requires { ⌜ (entryNumber e ≡ 0) × (e .kind ≡ 5) × (accountInRange a ≡ true) ⌝ }
+    requires { ⌜ (fieldNumber e ≡ 0) × (e .kind ≡ TRADE) × (accountInRange a ≡ true) ⌝ }
     ensures { λ r. ⌜ r ≡ trade a e ⌝ }
 {
     let date = e.date;

@@ -1,5 +1,6 @@
 // TRANSFER.
 ghost use mathlib.Core.Path.{_≡_};
+ghost use Rattle.ledger.specs.Kinds.{TRANSFER};
 ghost use Rattle.ledger.specs.Posting.{admission};
 ghost use Rattle.ledger.specs.Transfer.{postTransfer};
 use crate::answers::Posted;
@@ -14,7 +15,7 @@ use tariff::limits::above_maximum;
 use tariff::limits::below_minimum;
 
 pub fn post_transfer(l: Ledger, e: Entry) -> Posted
-    requires { ⌜ (admission l e ≡ 0) × (e .kind ≡ 4) ⌝ }
+    requires { ⌜ (admission l e ≡ 0) × (e .kind ≡ TRANSFER) ⌝ }
     ensures { λ r. ⌜ r ≡ postTransfer l e ⌝ }
 {
     let i = e.a;

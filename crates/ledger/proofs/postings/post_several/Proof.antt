@@ -1,27 +1,32 @@
--- TERMS and TRANSFER have their own rules, and an entry of several accounts that is neither closes.
+-- Each kind of no account or of two has its own rule, an arm of the code for each row; any other kind is refused.
 use borrow.Author.Needs.{needs}
-use borrow.Author.Tests.{ne-eqb}
-use mathlib.Core.Path.{_≡_}
-use Rattle.ledger.proofs.KindCases.{several-at, several-closes}
-use Rattle.ledger.specs.Closing.{postClosing}
+use native.Mathlib.Omega.{arith}
+use mathlib.Core.Logic.{⊎-elim}
+use Rattle.ledger.proofs.KindCases.{at, absent}
+use Rattle.ledger.specs.Kinds.{lookup}
 use Rattle.ledger.specs.Posting.{postSeveral}
-use Rattle.ledger.specs.declared.answers.Posted.{Posted}
-use Rattle.ledger.specs.declared.entries.Entry.{Entry}
-use Rattle.ledger.specs.declared.state.Ledger.{Ledger}
 use Rattle.ledger.proofs.postings.post_several.Statement.{statement}
 use Rattle.ledger.proofs.postings.post_several.Tie as tie
 
-at-closing : (l : Ledger) (e : Entry) (r : Posted) → (e .kind ≡ 1 → ⊥) → (e .kind ≡ 4 → ⊥) → r ≡ postClosing l e → r ≡ postSeveral l e
-unfolding postSeveral
-at-closing l e r d1 d4 p = rw (ne-eqb (e .kind) 1 d1, ne-eqb (e .kind) 4 d4) p
+post-closing-requires : tie.Need-post-closing-requires
+post-closing-requires c κs =
+    let s : tie.Start = search in
+    (s .pre, ⊎-elim (λ k. omega (arith, k .keys3)) (λ k. omega (arith, k .keys4)) (c .match .came))
+
+returns-4 : tie.Need-returns-4
+unfolding postSeveral lookup
+returns-4 c = ⊎-elim (λ k. search at) (λ k. search at) (c .before .match .came)
 
 pub post-several-spec : {M : Type 1} → statement M
+unfolding postSeveral lookup
 post-several-spec =
     tie.close
     (tie.spec
     (λ c κs. search needs)
+    (λ c. search at)
     (λ c κs. search needs)
-    (λ c κs. search (needs, several-closes))
-    (λ c. search several-at)
-    (λ c. search several-at)
-    (λ c. search at-closing))
+    (λ c. search at)
+    (λ c κs. search needs)
+    (λ c. search absent)
+    post-closing-requires
+    returns-4)

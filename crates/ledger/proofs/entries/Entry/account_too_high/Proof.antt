@@ -1,4 +1,4 @@
--- Each account is tested where the kind uses it, as the rule has it.
+-- Each account is tested where the kind names it, as the rule has it.
 use borrow.Author.Needs.{needs}
 use Rattle.ledger.specs.Entries.{accountTooHigh}
 use Rattle.ledger.proofs.entries.Entry.account_too_high.Statement.{statement}
@@ -6,7 +6,7 @@ use Rattle.ledger.proofs.entries.Entry.account_too_high.Tie as tie
 
 returns : tie.Need-returns
 unfolding accountTooHigh
-returns c = cc
+returns c = search needs
 
 pub account-too-high-spec : {M : Type 1} → statement M
-account-too-high-spec = tie.close (search (needs, tie.spec, returns))
+account-too-high-spec = tie.close (tie.spec returns)

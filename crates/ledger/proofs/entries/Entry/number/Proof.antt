@@ -1,12 +1,12 @@
 -- The six checks are asked by their own functions, and `refuse` picks the first that finds something wrong, in ascending order.
 use borrow.Author.Needs.{needs}
 use Rattle.ledger.specs.Checks.{verdict}
-use Rattle.ledger.specs.Entries.{entryChecks, entryNumber}
+use Rattle.ledger.specs.Entries.{entryChecks, entryNumber, fieldChecks}
 use Rattle.ledger.proofs.entries.Entry.number.Statement.{statement}
 use Rattle.ledger.proofs.entries.Entry.number.Tie as tie
 
 returns : tie.Need-returns
-unfolding entryNumber entryChecks verdict
+unfolding entryNumber entryChecks fieldChecks verdict
 returns c = cc
 
 pub number-spec : {M : Type 1} → statement M

@@ -1,0 +1,61 @@
+-- The kinds of entries: their numbers, and the one table of what each uses.
+use Prim.Native.Nat.{ℕ}
+use mathlib.Core.Bool.{cond}
+use mathlib.Core.List.{List, [], _∷_}
+use lib.Dec.{eqb}
+use Rattle.ledger.specs.declared.kinds.Kind.{Kind}
+
+abbrev pub TERMS : ℕ
+TERMS = 1
+
+abbrev pub ENROL : ℕ
+ENROL = 2
+
+abbrev pub DELIVER : ℕ
+DELIVER = 3
+
+abbrev pub TRANSFER : ℕ
+TRANSFER = 4
+
+abbrev pub TRADE : ℕ
+TRADE = 5
+
+abbrev pub MEASURE : ℕ
+MEASURE = 6
+
+abbrev pub USAGE : ℕ
+USAGE = 7
+
+abbrev pub CLOSE-DAY : ℕ
+CLOSE-DAY = 8
+
+abbrev pub CLOSE-MONTH : ℕ
+CLOSE-MONTH = 9
+
+-- what a table has for a kind, or what is said of a kind that it does not name
+unfoldable pub lookup : {A : Type 0} → ℕ → List (ℕ × A) → A → A
+lookup kind [] otherwise = otherwise
+lookup kind (r ∷ rest) otherwise = cond (eqb kind (r .0)) (r .1) (lookup kind rest otherwise)
+
+abbrev pub row : ℕ → ℕ → ℕ → ℕ → Kind
+row accounts flags words since = record { accounts = accounts; flags = flags; words = words; since = since }
+
+-- what stands for `since` where there is no such kind
+abbrev pub never : ℕ
+never = 255
+
+-- how many accounts it names: none (a rule of the ledger), A (of that account alone), or A and B (of the pair); its largest flag ("Flags may be summed (ENROL 0 to 3)"), how many of w1 to w6 it uses, and which rules brought it, 1 being the first
+unfoldable pub kindOf : ℕ → Kind
+kindOf kind =
+    lookup kind
+    ((TERMS, row 0 0 6 1)
+    ∷ (ENROL, row 1 3 2 1)
+    ∷ (DELIVER, row 1 0 2 1)
+    ∷ (TRANSFER, row 2 0 2 1)
+    ∷ (TRADE, row 1 1 1 1)
+    ∷ (MEASURE, row 1 0 1 1)
+    ∷ (USAGE, row 1 0 1 1)
+    ∷ (CLOSE-DAY, row 0 0 0 1)
+    ∷ (CLOSE-MONTH, row 0 0 4 1)
+    ∷ [])
+    (row 0 0 0 never)
