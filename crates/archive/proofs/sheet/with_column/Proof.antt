@@ -1,7 +1,7 @@
 -- Row by row the month's cell takes the account's bank; after 16 rows the whole column has.
 use Rattle.archive.proofs.Grids.{filled, filled-none, filled-next, filled-all}
 use Rattle.archive.specs.YearSheet.{grid, cellAt, bankIn}
-use Rattle.ledger.specs.History.{bankOf}
+use Rattle.ledger.specs.Panel.{bankOf}
 use Rattle.ledger.specs.declared.state.Ledger.{Ledger}
 use Rattle.tariff.specs.declared.amounts.Units.{Units}
 use lib.Dec.{eqb}
