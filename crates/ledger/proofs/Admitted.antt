@@ -1,4 +1,4 @@
--- Numbers 2 to 7 and 20 to 22 are one list of checks, so that none was given tells of each that it found nothing wrong: what that says of the entry and the ledger.
+-- Numbers 2 to 7 and 20 to 23 are one list of checks, so that none was given tells of each that it found nothing wrong: what that says of the entry and the ledger.
 use Prim.Native.Nat.{ℕ}
 use mathlib.Core.Path.{_≡_, refl, sym, _∙_}
 use mathlib.Core.Bool.{Bool, true, false, cond, not, _&&_}
@@ -6,42 +6,46 @@ use mathlib.Core.List.{_++_}
 use lib.Dec.{eqb, leb}
 use borrow.Author.Tests.{eqb-true, eq-eqb, ne-eqb, not-false}
 use Rattle.tariff.specs.Dates.{real}
-use Rattle.tariff.specs.declared.dates.Date.{Date}
 use Rattle.ledger.specs.Checks.{verdict}
 use Rattle.ledger.specs.Kinds.{kindOf}
 use Rattle.ledger.specs.Entries.{fieldChecks, fieldNumber, entryChecks, entryNumber}
 use Rattle.ledger.specs.Ranges.{inRange}
+use Rattle.ledger.specs.Days.{wrongDay}
 use Rattle.ledger.specs.Posting.{standingChecks, admission}
 use Rattle.ledger.specs.declared.state.Ledger.{Ledger}
 use Rattle.ledger.specs.declared.entries.Entry.{Entry}
 use Rattle.ledger.proofs.RightEntries as right
 use Rattle.ledger.proofs.Verdicts.{first, clear, verdict-append}
 
-module _ (fits begun : Bool) (today : Date) (e : Entry) where
-  admission-by : verdict (entryChecks e ++ standingChecks fits begun today e) ≡ cond (eqb (entryNumber e) 0) (verdict (standingChecks fits begun today e)) (entryNumber e)
-  unfolding entryNumber entryChecks fieldChecks
-  admission-by = verdict-append (entryChecks e) (standingChecks fits begun today e) refl
+module _ (l : Ledger) (e : Entry) where
+  admission-by : admission l e ≡ cond (eqb (entryNumber e) 0) (verdict (standingChecks l e)) (entryNumber e)
+  unfolding admission entryNumber entryChecks fieldChecks
+  admission-by = verdict-append (entryChecks e) (standingChecks l e) refl
 
   -- an entry wrong in itself is refused for that
-  pub admission-own : (entryNumber e ≡ 0 → ⊥) → verdict (entryChecks e ++ standingChecks fits begun today e) ≡ entryNumber e
+  pub admission-own : (entryNumber e ≡ 0 → ⊥) → admission l e ≡ entryNumber e
   admission-own wrong = rw (admission-by, ne-eqb (entryNumber e) 0 wrong)
 
   -- one right in itself is refused for what the ledger says
-  pub admission-standing : entryNumber e ≡ 0 → verdict (entryChecks e ++ standingChecks fits begun today e) ≡ verdict (standingChecks fits begun today e)
+  pub admission-standing : entryNumber e ≡ 0 → admission l e ≡ verdict (standingChecks l e)
   admission-standing own = rw (admission-by, eq-eqb (entryNumber e) 0 own)
 
   -- one that is not refused is right in itself
-  pub own-number : verdict (entryChecks e ++ standingChecks fits begun today e) ≡ 0 → entryNumber e ≡ 0
-  own-number h = go (eqb (entryNumber e) 0) (entryNumber e) (verdict (standingChecks fits begun today e)) refl (sym admission-by ∙ h)
+  own-number : admission l e ≡ 0 → entryNumber e ≡ 0
+  own-number h = go (eqb (entryNumber e) 0) (entryNumber e) (verdict (standingChecks l e)) refl (sym admission-by ∙ h)
     where
       go : (t : Bool) (n m : ℕ) → eqb n 0 ≡ t → cond t m n ≡ 0 → n ≡ 0
       go true n m z q = eqb-true n 0 z
       go false n m z q = q
 
+-- the number of an entry right in itself has none of 2 to 7
+pub own-right : (e : Entry) → entryNumber e ≡ 0 → fieldNumber e ≡ 0
+unfolding entryNumber entryChecks fieldNumber verdict
+own-right e z = first (not (leb (kindOf (e .kind) .since) 1)) 2 (fieldNumber e) refl z .1
+
 module _ (l : Ledger) (e : Entry) (h : admission l e ≡ 0) where
   pub is-right : fieldNumber e ≡ 0
-  unfolding admission entryNumber entryChecks fieldNumber verdict
-  is-right = first (not (leb (kindOf (e .kind) .since) 1)) 2 (fieldNumber e) refl (own-number (inRange l) (l .begun) (l .date) e h) .1
+  is-right = own-right e (own-number l e h)
 
   pub is-real : real (e .date) ≡ true
   is-real = right.is-real e is-right
@@ -61,3 +65,8 @@ module _ (l : Ledger) (e : Entry) (h : admission l e ≡ 0) where
       go : (b : Bool) → not b && true ≡ false → b ≡ true
       go true q = refl
       go false q = sym q
+
+  -- it is a day that the kind may have
+  pub is-day : wrongDay (l .touched) e ≡ false
+  unfolding admission entryChecks fieldChecks standingChecks
+  is-day = clear _ refl h 9

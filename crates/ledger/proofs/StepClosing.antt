@@ -7,7 +7,7 @@ use native.Mathlib.Omega.{arith}
 use lib.Dec.{eqb}
 use lib.IntN.{ℤ, _+ℤ_}
 use lib.ListN.{length-map}
-use borrow.Author.Tests.{eq-eqb, ne-eqb, eqb-false, not-false}
+use borrow.Author.Tests.{eq-eqb, ne-eqb, eqb-true, eqb-false, not-false}
 use Rattle.tariff.specs.Dates.{real, lastOfMonth, lastDate, dayAfter}
 use Rattle.tariff.specs.Terms.{termsInRange}
 use Rattle.tariff.specs.declared.terms.Terms.{Terms}
@@ -17,7 +17,9 @@ use Rattle.ledger.specs.Checks.{verdict}
 use Rattle.ledger.specs.Entries.{entryOf}
 use Rattle.ledger.specs.State.{accountAt}
 use Rattle.ledger.specs.Ranges.{accountInRange, everyAccount, inRange}
-use Rattle.ledger.specs.Closing.{closedAccount, accountClosed, reportOf, staysInRange, wrongClosing, closingChecks, closed}
+use Rattle.ledger.specs.Closing.{closedAccount, accountClosed, reportOf, staysInRange, closingChecks, closed}
+use Rattle.ledger.specs.Kinds.{lookup}
+use Rattle.ledger.specs.Days.{wrongDay}
 use Rattle.ledger.specs.Posting.{admission}
 use Rattle.ledger.specs.Panel.{openBank, bankOf}
 use Rattle.ledger.specs.declared.state.Account.{Account}
@@ -26,7 +28,7 @@ use Rattle.ledger.specs.declared.entries.Entry.{Entry}
 use Rattle.ledger.specs.declared.answers.Report.{Report}
 use Rattle.ledger.proofs.Verdicts.{clear}
 use Rattle.ledger.proofs.Bounded.{begun-ranged}
-use Rattle.ledger.proofs.Admitted.{is-begun, is-real}
+use Rattle.ledger.proofs.Admitted.{is-begun, is-day, is-real}
 use Rattle.ledger.proofs.ClosedAccounts.{openOwed, openDays, reportMoves, reportDays, accounted, account-closed, account-reported}
 use Rattle.ledger.proofs.OneStep.{Sound, Taken, Step, gainAt, reportAt}
 
@@ -76,18 +78,27 @@ module _ (l : Ledger) (e : Entry) (s : Sound l) (h : admission l e ≡ 0) (c : 8
   unfolding closed
   keeps-rate = refl
 
-  next-real : verdict (closingChecks l e) ≡ 0 → real (dayAfter (e .date)) ≡ true
-  unfolding closingChecks wrongClosing
-  next-real o =
-      right-days (e .date) (is-real l e h)
-      (or-right ((lastOfMonth (e .date) && eqb (e .kind) 8) || (not (lastOfMonth (e .date)) && eqb (e .kind) 9)) (lastDate (e .date)) (clear _ refl o 0)) .isReal
+  -- a closing that came on its day did not come on the last date of all
+  not-last : lastDate (e .date) ≡ false
+  unfolding wrongDay lookup
+  not-last = go (eqb (e .kind) 8) refl
+    where
+      go : (t : Bool) → eqb (e .kind) 8 ≡ t → lastDate (e .date) ≡ false
+      go true z = or-right (lastOfMonth (e .date)) (lastDate (e .date)) (rw (eqb-true (e .kind) 8 z) at (is-day l e h))
+      go false z = or-right (not (lastOfMonth (e .date))) (lastDate (e .date)) (rw (nine z) at (is-day l e h))
+        where
+          nine : eqb (e .kind) 8 ≡ false → e .kind ≡ 9
+          nine z = omega (arith, eqb-false (e .kind) 8 z)
+
+  next-real : real (dayAfter (e .date)) ≡ true
+  next-real = right-days (e .date) (is-real l e h) not-last .isReal
 
   next-ranged : verdict (closingChecks l e) ≡ 0 → inRange (closed l e .ledger) ≡ true
   unfolding inRange closed closingChecks
   next-ranged o =
       both (not (l .begun) || (real (dayAfter (e .date)) && termsInRange (l .terms))) (everyAccount accountInRange (map (accountClosed (l .terms) e) (l .accounts)))
-      (or-else (not (l .begun)) (real (dayAfter (e .date)) && termsInRange (l .terms)) (both (real (dayAfter (e .date))) (termsInRange (l .terms)) (next-real o) (begun-ranged l (s .ranged) begun .1)))
-      (closed-ranged (l .terms) e (l .accounts) (not-false (everyAccount (staysInRange (l .terms) e) (l .accounts)) (clear _ refl o 2)))
+      (or-else (not (l .begun)) (real (dayAfter (e .date)) && termsInRange (l .terms)) (both (real (dayAfter (e .date))) (termsInRange (l .terms)) next-real (begun-ranged l (s .ranged) begun .1)))
+      (closed-ranged (l .terms) e (l .accounts) (not-false (everyAccount (staysInRange (l .terms) e) (l .accounts)) (clear _ refl o 1)))
 
   takes-closing : verdict (closingChecks l e) ≡ 0 → Taken l e (closed l e .answer) (closed l e .ledger)
   unfolding bankOf

@@ -116,7 +116,7 @@ module _ (l : Ledger) (e : Entry) (s : Sound l) (h : admission l e ≡ 0) where
         sound =
             record {
               sized = unfold termsNext in (length-map (l .accounts) (reworked (termsOf e)) ∙ s .sized);
-              ranged = unfold termsChecks in not-false (inRange (termsNext l e)) (clear _ refl o 2);
+              ranged = unfold termsChecks in not-false (inRange (termsNext l e)) (clear _ refl o 0);
             };
         banks = λ i. reworks openBank (λ c a. unfold withCapacity openBank in refl) i ∙ sym (ap (λ (m : ℕ). openBank (accountAt l i) +ℤ gainAt m l e (plain 0) i) is ∙ +ℤ-idr (openBank (accountAt l i)));
         debts = λ i. reworks openOwed (λ c a. unfold withCapacity in refl) i ∙ same-debt e 1 is refl i (openOwed (accountAt l i));
@@ -132,9 +132,9 @@ module _ (l : Ledger) (e : Entry) (s : Sound l) (h : admission l e ≡ 0) where
   pub takes-enrol : e .a < 16 → e .kind ≡ kinds.ENROL → verdict (enrolChecks (l .terms) old e) ≡ 0 → Taken l e (plain 0) (withAccount l (e .a) (enrolled (l .terms) e))
   unfolding enrolChecks enrolled newAccount openBank
   takes-enrol i is o =
-      let shut : old .opened ≡ false = clear _ refl o 1 in
+      let shut : old .opened ≡ false = clear _ refl o 0 in
       stores e 2 is refl l (enrolled (l .terms) e) (pos (e .w2)) refl refl s (begun-before 2 is (λ z. omega (arith, z))) i
-      (not-false (accountInRange (enrolled (l .terms) e)) (clear _ refl o 4))
+      (not-false (accountInRange (enrolled (l .terms) e)) (clear _ refl o 3))
       (amount-value (record { 0 = e .w2 }) ∙ sym (ap (λ (z : ℤ). z +ℤ pos (e .w2)) (not-chosen (old .opened) (old .bank .0) (pos 0) shut) ∙ +ℤ-idl (pos (e .w2))))
       (sym (not-chosen (old .opened) (old .owed .0) (pos 0) shut))
       (sym (not-chosen (old .opened) (pos (old .«violation_days»)) (pos 0) shut))
@@ -170,7 +170,7 @@ module _ (l : Ledger) (e : Entry) (s : Sound l) (h : admission l e ≡ 0) where
   unfolding measureChecks afterMeasure remeasured withMarks withMeasure openBank
   takes-measure i is o =
       stores e 6 is refl l (afterMeasure old e) (pos 0) refl refl s (begun-before 6 is (λ z. omega (arith, z))) i
-      (not-false (accountInRange (afterMeasure old e)) (clear _ refl o 3))
+      (not-false (accountInRange (afterMeasure old e)) (clear _ refl o 2))
       (sym (+ℤ-idr (openBank old)))
       refl
       refl

@@ -181,11 +181,6 @@ reportOf t e a = closedAccount t e a .report
 
 -- ---- the checks
 
--- "closing of the wrong kind; any closing on 31 December 2099"
-unfoldable pub wrongClosing : Entry → Bool
-wrongClosing e =
-    (lastOfMonth (e .date) && eqb (e .kind) kinds.CLOSE-DAY) || (not (lastOfMonth (e .date)) && eqb (e .kind) kinds.CLOSE-MONTH) || lastDate (e .date)
-
 -- "27 closing while an open account lacks DELIVER, on the measurement day MEASURE, or at month's end USAGE" is what this is not
 unfoldable pub complete : Date → Account → Bool
 complete d a =
@@ -198,8 +193,7 @@ staysInRange t e a = accountInRange (closedAccount t e a .day) && accountInRange
 
 unfoldable pub closingChecks : Ledger → Entry → List Check
 closingChecks l e =
-    (wrongClosing e, 23)
-    ∷ (not (everyAccount (complete (e .date)) (l .accounts)), 27)
+    (not (everyAccount (complete (e .date)) (l .accounts)), 27)
     ∷ (not (everyAccount (staysInRange (l .terms) e) (l .accounts)), 29)
     ∷ []
 

@@ -37,11 +37,10 @@ newAccount t mdq opening =
 unfoldable pub enrolled : Terms → Entry → Account
 enrolled t e = newAccount t (record { 0 = e .w1 }) (record { 0 = e .w2 })
 
--- "23 … ENROL off April 1"; "24 ENROL of an open account"; "25 stays on FBS"; "28 opening above 25 × BCQ"
+-- "24 ENROL of an open account"; "25 stays on FBS"; "28 opening above 25 × BCQ"
 unfoldable pub enrolChecks : Terms → Account → Entry → List Check
 enrolChecks t a e =
-    (not (firstOfGasYear (e .date)), 23)
-    ∷ (a .opened, 24)
+    (a .opened, 24)
     ∷ (staysOnFbs (processOnly e) (wishes e) (record { 0 = e .w1 }), 25)
     ∷ (openingTooHigh (record { 0 = e .w2 }) (enrolled t e .capacity .bcq), 28)
     ∷ (not (accountInRange (enrolled t e)), 29)

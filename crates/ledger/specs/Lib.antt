@@ -12,6 +12,7 @@ pub mod Trade
 pub mod Measure
 pub mod Usage
 pub mod Closing
+pub mod Days
 pub mod Posting
 pub mod Panel
 pub mod Running

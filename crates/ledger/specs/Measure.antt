@@ -29,11 +29,10 @@ remeasured a mdq = withMarks (withMeasure a mdq (measured (a .step) mdq)) (measu
 unfoldable pub afterMeasure : Account → Entry → Account
 afterMeasure a e = remeasured a (record { 0 = e .w1 })
 
--- "23 … MEASURE off its day"; "26 second … MEASURE … that month"
+-- "26 second … MEASURE … that month"
 unfoldable pub measureChecks : Account → Entry → List Check
 measureChecks a e =
-    (not (onMeasurementDay (e .date)), 23)
-    ∷ (not (a .opened), 24)
+    (not (a .opened), 24)
     ∷ (a .marks .measured, 26)
     ∷ (not (accountInRange (afterMeasure a e)), 29)
     ∷ []

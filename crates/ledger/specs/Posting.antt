@@ -22,23 +22,25 @@ use Rattle.ledger.specs.Trade.{trade}
 use Rattle.ledger.specs.Measure.{measurement}
 use Rattle.ledger.specs.Usage.{usage}
 use Rattle.ledger.specs.Closing.{postClosing}
+use Rattle.ledger.specs.Days.{wrongDay}
 use Rattle.ledger.specs.declared.state.Account.{Account}
 use Rattle.ledger.specs.declared.state.Ledger.{Ledger}
 use Rattle.ledger.specs.declared.entries.Entry.{Entry}
 use Rattle.ledger.specs.declared.answers.Change.{Change}
 use Rattle.ledger.specs.declared.answers.Posted.{Posted}
 
--- "20 a number in the ledger outside its range"; "21 not begun, and not TERMS"; "22 not the ledger's date (not for the first TERMS)"
-unfoldable pub standingChecks : Bool → Bool → Date → Entry → List Check
-standingChecks fits begun today e =
-    (not fits, 20)
-    ∷ (not begun && not (eqb (e .kind) kinds.TERMS), 21)
-    ∷ (begun && not (sameDate (e .date) today), 22)
+-- 20: a number of the ledger is out of its range. 21: it has not begun, and this is no TERMS. 22: this is not its date, once it has begun. 23: it is the wrong day for the kind.
+unfoldable pub standingChecks : Ledger → Entry → List Check
+standingChecks l e =
+    (not (inRange l), 20)
+    ∷ (not (l .begun) && not (eqb (e .kind) kinds.TERMS), 21)
+    ∷ (l .begun && not (sameDate (e .date) (l .date)), 22)
+    ∷ (wrongDay (l .touched) e, 23)
     ∷ []
 
--- the numbers that do not depend on the kind: 2 to 7, 20 to 22
+-- what every posting is asked, whatever its kind: 2 to 7, 20 to 23
 unfoldable pub admission : Ledger → Entry → ℕ
-admission l e = verdict (entryChecks e ++ standingChecks (inRange l) (l .begun) (l .date) e)
+admission l e = verdict (entryChecks e ++ standingChecks l e)
 
 -- the kinds that name no account, or two; any other is refused, as 2 says already
 unfoldable pub postSeveral : Ledger → Entry → Posted

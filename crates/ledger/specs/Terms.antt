@@ -28,10 +28,8 @@ termsNext l e =
       accounts = map (reworked (termsOf e)) (l .accounts);
     }
 
--- "23 TERMS … off April 1; TERMS after an accepted posting that day"
 unfoldable pub termsChecks : Ledger → Entry → List Check
-termsChecks l e =
-    (not (firstOfGasYear (e .date)), 23) ∷ (l .touched, 23) ∷ (not (inRange (termsNext l e)), 29) ∷ []
+termsChecks l e = (not (inRange (termsNext l e)), 29) ∷ []
 
 unfoldable pub postTerms : Ledger → Entry → Posted
 postTerms l e = settle l (verdict (termsChecks l e)) (termsNext l e)

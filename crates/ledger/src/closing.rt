@@ -11,7 +11,7 @@ ghost use Rattle.ledger.specs.Kinds.{CLOSE-DAY, CLOSE-MONTH};
 ghost use Rattle.ledger.specs.Entries.{pricesOf};
 ghost use Rattle.ledger.specs.Ranges.{accountInRange, everyAccount};
 ghost use Rattle.ledger.specs.Posting.{admission};
-ghost use Rattle.ledger.specs.Closing.{limitOf, violationsOf, cashAt, withCash, dayMarks, dayEnd, monthMarks, monthEnd, nextCapacity, closedDay, closedMonth, closedAccount, staysInRange, wrongClosing, complete, closed, postClosing};
+ghost use Rattle.ledger.specs.Closing.{limitOf, violationsOf, cashAt, withCash, dayMarks, dayEnd, monthMarks, monthEnd, nextCapacity, closedDay, closedMonth, closedAccount, staysInRange, complete, closed, postClosing};
 use crate::answers::Answer;
 use crate::answers::Posted;
 use crate::answers::Report;
@@ -258,16 +258,6 @@ fn close_account(t: Terms, e: Entry, a: Account) -> Closed
     close_day(date, a)
 }
 
-fn wrong_closing(e: Entry) -> bool
-    requires { ⌜ real (e .date) ≡ true ⌝ }
-    ensures { λ r. ⌜ r ≡ wrongClosing e ⌝ }
-{
-    let date = e.date;
-    let kind = e.kind;
-    let ends = date.last_of_month();
-    (ends & (kind == kinds::CLOSE_DAY)) | (!ends & (kind == kinds::CLOSE_MONTH)) | date.last_date()
-}
-
 fn complete(d: Date, a: Account) -> bool
     requires { ⌜ real d ≡ true ⌝ }
     ensures { λ r. ⌜ r ≡ complete d a ⌝ }
@@ -330,9 +320,6 @@ pub fn post_closing(l: Ledger, e: Entry) -> Posted
     requires { ⌜ (admission l e ≡ 0) × (CLOSE-DAY ≤ e .kind) ⌝ }
     ensures { λ r. ⌜ r ≡ postClosing l e ⌝ }
 {
-    if wrong_closing(e) {
-        return refused(l, 23);
-    }
     let all = close_all(l, e);
     if !all.complete {
         return refused(l, 27);

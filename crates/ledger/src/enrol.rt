@@ -51,23 +51,17 @@ pub fn enrolment(t: Terms, a: Account, e: Entry) -> Change
     requires { ⌜ (fieldNumber e ≡ 0) × (e .kind ≡ ENROL) × (accountInRange a ≡ true) × (termsInRange t ≡ true) ⌝ }
     ensures { λ r. ⌜ r ≡ enrolment t a e ⌝ }
 {
-    let date = e.date;
     let mdq = Dth(e.w1);
     let opening = Quantity(e.w2);
     let b = new_account(t, mdq, opening);
     let bcq = b.capacity.bcq;
-    let off = !date.first_of_gas_year();
     let stays = stays_on_fbs(e.process_only(), e.wishes(), mdq);
     let above = opening_too_high(opening, bcq);
     let out = !account_in_range(b);
     let n = refuse(
-        23,
-        off,
-        refuse(
-            24,
-            a.opened,
-            refuse(25, stays, refuse(28, above, refuse(29, out, 0))),
-        ),
+        24,
+        a.opened,
+        refuse(25, stays, refuse(28, above, refuse(29, out, 0))),
     );
     Change {
         number: n,

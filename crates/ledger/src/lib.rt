@@ -102,7 +102,7 @@ pub fn post(mut ledger: Ledger, entry: &[u8]) -> Posted
         let fit = account_in_range(one);
         fits = fits & fit;
     }
-    let n = admission(fits, ledger.begun, today, e);
+    let n = admission(fits, ledger.begun, ledger.touched, today, e);
     if n != 0 {
         return refused(ledger, n);
     }

@@ -32,18 +32,12 @@ pub fn measurement(a: Account, e: Entry) -> Change
     requires { ⌜ (fieldNumber e ≡ 0) × (e .kind ≡ MEASURE) × (accountInRange a ≡ true) ⌝ }
     ensures { λ r. ⌜ r ≡ measurement a e ⌝ }
 {
-    let date = e.date;
-    let off = !date.on_measurement_day();
     let b = remeasured(a, Dth(e.w1));
     let out = !account_in_range(b);
     let n = refuse(
-        23,
-        off,
-        refuse(
-            24,
-            !a.opened,
-            refuse(26, a.marks.measured, refuse(29, out, 0)),
-        ),
+        24,
+        !a.opened,
+        refuse(26, a.marks.measured, refuse(29, out, 0)),
     );
     Change {
         number: n,

@@ -1,12 +1,13 @@
 // Which rules a posting meets, by its kind.
 ghost use mathlib.Core.Path.{_≡_};
 ghost use mathlib.Core.Bool.{true};
-ghost use mathlib.Core.List.{_++_};
+ghost use Rattle.tariff.specs.Dates.{real};
 ghost use Rattle.tariff.specs.Terms.{termsInRange};
-ghost use Rattle.ledger.specs.Checks.{verdict};
-ghost use Rattle.ledger.specs.Entries.{entryChecks, fieldNumber};
-ghost use Rattle.ledger.specs.Ranges.{accountInRange};
-ghost use Rattle.ledger.specs.Posting.{standingChecks, admission, postSeveral, changeOf};
+ghost use Rattle.ledger.specs.Entries.{fieldNumber};
+ghost use Rattle.ledger.specs.Ranges.{accountInRange, inRange};
+ghost use Rattle.ledger.specs.Days.{wrongDay};
+ghost use Rattle.ledger.specs.Posting.{admission, postSeveral, changeOf};
+ghost use Rattle.ledger.specs.declared.state.Ledger as declared;
 use crate::answers::Change;
 use crate::answers::Posted;
 use crate::answers::refused;
@@ -26,9 +27,26 @@ use crate::usage::usage;
 use tariff::dates::Date;
 use tariff::terms::Terms;
 
-// The numbers that do not depend on the kind, for a ledger by what they ask of it: whether its numbers are in their ranges, whether it has begun, and its date.
-pub fn admission(fits: bool, begun: bool, today: Date, e: Entry) -> u64
-    ensures { λ r. ⌜ r ≡ verdict (entryChecks e ++ standingChecks fits begun today e) ⌝ }
+// Number 23.
+fn wrong_day(touched: bool, e: Entry) -> bool
+    requires { ⌜ real (e .date) ≡ true ⌝ }
+    ensures { λ r. ⌜ r ≡ wrongDay touched e ⌝ }
+{
+    let date = e.date;
+    let kind = e.kind;
+    match kind {
+        kinds::TERMS => !date.first_of_gas_year() | touched,
+        kinds::ENROL => !date.first_of_gas_year(),
+        kinds::MEASURE => !date.on_measurement_day(),
+        kinds::CLOSE_DAY => date.last_of_month() | date.last_date(),
+        kinds::CLOSE_MONTH => !date.last_of_month() | date.last_date(),
+        _ => false,
+    }
+}
+
+// What every posting is asked, whatever its kind, of a ledger by what is asked of it: whether its numbers are in their ranges, whether it has begun and was posted to today, and its date.
+pub fn admission(fits: bool, begun: bool, touched: bool, today: Date, e: Entry) -> u64
+    ensures { λ r. ⌜ ((l : declared.Ledger) → inRange l ≡ fits → l .begun ≡ begun → l .touched ≡ touched → l .date ≡ today → r ≡ admission l e) ⌝ }
 {
     let date = e.date;
     let n = e.number();
@@ -37,7 +55,12 @@ pub fn admission(fits: bool, begun: bool, today: Date, e: Entry) -> u64
     }
     let not_begun = !begun & !(e.kind == kinds::TERMS);
     let other_day = begun & !date.same(today);
-    refuse(20, !fits, refuse(21, not_begun, refuse(22, other_day, 0)))
+    let wrong = wrong_day(touched, e);
+    refuse(
+        20,
+        !fits,
+        refuse(21, not_begun, refuse(22, other_day, refuse(23, wrong, 0))),
+    )
 }
 
 // The kinds that name no account, or two.

@@ -52,10 +52,8 @@ pub fn post_terms(l: Ledger, e: Entry) -> Posted
     requires { ⌜ (admission l e ≡ 0) × (e .kind ≡ TERMS) ⌝ }
     ensures { λ r. ⌜ r ≡ postTerms l e ⌝ }
 {
-    let date = e.date;
-    let off = !date.first_of_gas_year();
     let next = terms_next(l, e);
     let out = !in_range(next);
-    let n = refuse(23, off, refuse(23, l.touched, refuse(29, out, 0)));
+    let n = refuse(29, out, 0);
     settle(l, n, next)
 }

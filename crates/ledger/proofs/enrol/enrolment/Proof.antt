@@ -16,15 +16,14 @@ use Rattle.ledger.specs.declared.state.Account.{Account}
 use Rattle.ledger.proofs.enrol.enrolment.Statement.{statement}
 use Rattle.ledger.proofs.enrol.enrolment.Tie as tie
 
-judged : (t : Terms) (a b : Account) (e : Entry) (first only wants stays above fits : Bool) (n₁ n₂ n₃ n₄ n₅ : ℕ)
-    → n₅ ≡ cond (not first) 23 n₄ → n₄ ≡ cond (a .opened) 24 n₃ → n₃ ≡ cond stays 25 n₂ → n₂ ≡ cond above 28 n₁ → n₁ ≡ cond (not fits) 29 0
-    → first ≡ firstOfGasYear (e .date)
+judged : (t : Terms) (a b : Account) (e : Entry) (only wants stays above fits : Bool) (n₁ n₂ n₃ n₄ : ℕ)
+    → n₄ ≡ cond (a .opened) 24 n₃ → n₃ ≡ cond stays 25 n₂ → n₂ ≡ cond above 28 n₁ → n₁ ≡ cond (not fits) 29 0
     → stays ≡ staysOnFbs only wants (record { 0 = e .w1 }) → only ≡ processOnly e → wants ≡ wishes e
     → above ≡ openingTooHigh (record { 0 = e .w2 }) (b .capacity .bcq)
     → fits ≡ accountInRange b → b ≡ newAccount t (record { 0 = e .w1 }) (record { 0 = e .w2 })
-    → record { number = n₅; account = b } ≡ enrolment t a e
+    → record { number = n₄; account = b } ≡ enrolment t a e
 unfolding enrolment enrolChecks enrolled verdict
-judged t a b e first only wants stays above fits n₁ n₂ n₃ n₄ n₅ q₅ q₄ q₃ q₂ q₁ f s o w h r p = cc
+judged t a b e only wants stays above fits n₁ n₂ n₃ n₄ q₄ q₃ q₂ q₁ s o w h r p = cc
 
 new-account-requires : tie.Need-new-account-requires
 new-account-requires c κs =

@@ -1,4 +1,4 @@
--- An entry right in itself has a real date and a demand within range, which is all that a measurement asks; the checks then stand in ascending order.
+-- An entry right in itself has a demand within range, which is all that a measurement asks; the checks then stand in ascending order.
 use borrow.Author.Needs.{needs}
 use Prim.Native.Nat.{ℕ}
 use mathlib.Core.Bool.{Bool, cond, not}
@@ -13,15 +13,12 @@ use Rattle.ledger.specs.declared.state.Account.{Account}
 use Rattle.ledger.proofs.measure.measurement.Statement.{statement}
 use Rattle.ledger.proofs.measure.measurement.Tie as tie
 
-judged : (a b : Account) (e : Entry) (day fits : Bool) (n₁ n₂ n₃ n₄ : ℕ)
-    → n₄ ≡ cond (not day) 23 n₃ → n₃ ≡ cond (not (a .opened)) 24 n₂ → n₂ ≡ cond (a .marks .measured) 26 n₁ → n₁ ≡ cond (not fits) 29 0
-    → fits ≡ accountInRange b → b ≡ remeasured a (record { 0 = e .w1 }) → day ≡ onMeasurementDay (e .date)
-    → record { number = n₄; account = b } ≡ measurement a e
+judged : (a b : Account) (e : Entry) (fits : Bool) (n₁ n₂ n₃ : ℕ)
+    → n₃ ≡ cond (not (a .opened)) 24 n₂ → n₂ ≡ cond (a .marks .measured) 26 n₁ → n₁ ≡ cond (not fits) 29 0
+    → fits ≡ accountInRange b → b ≡ remeasured a (record { 0 = e .w1 })
+    → record { number = n₃; account = b } ≡ measurement a e
 unfolding measurement measureChecks afterMeasure verdict
-judged a b e day fits n₁ n₂ n₃ n₄ q₄ q₃ q₂ q₁ r p d = cc
-
-on-measurement-day-requires : tie.Need-on-measurement-day-requires
-on-measurement-day-requires c κs = search (needs, is-real)
+judged a b e fits n₁ n₂ n₃ q₃ q₂ q₁ r p = cc
 
 remeasured-requires : tie.Need-remeasured-requires
 remeasured-requires c κs = search (needs, measure-fits)
@@ -30,4 +27,4 @@ returns : tie.Need-returns
 returns c = search judged
 
 pub measurement-spec : {M : Type 1} → statement M
-measurement-spec = tie.close (search (needs, tie.spec, on-measurement-day-requires, remeasured-requires, returns))
+measurement-spec = tie.close (search (needs, tie.spec, remeasured-requires, returns))

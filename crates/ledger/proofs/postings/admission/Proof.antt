@@ -1,36 +1,46 @@
--- An entry wrong in itself is refused for that, without a look at the ledger; else the ledger's three checks decide, in ascending order.
+-- An entry wrong in itself is refused for that, without a look at the ledger; else what is asked of the ledger and the day decides, in ascending order.
 use borrow.Author.Needs.{needs}
 use Prim.Native.Nat.{ℕ}
-use mathlib.Core.Bool.{Bool, _&&_, cond, not}
-use mathlib.Core.List.{_++_}
+use mathlib.Core.Bool.{Bool, true, _&&_, cond, not}
 use mathlib.Core.Path.{_∙_, _≡_, sym}
 use lib.Dec.{eqb}
-use Rattle.ledger.proofs.Admitted.{admission-own, admission-standing}
-use Rattle.tariff.specs.Dates.{sameDate}
+use Rattle.ledger.proofs.Admitted.{admission-own, admission-standing, own-right}
+use Rattle.ledger.proofs.RightEntries.{is-real}
+use Rattle.tariff.specs.Dates.{real, sameDate}
 use Rattle.tariff.specs.declared.dates.Date.{Date}
 use Rattle.ledger.specs.Checks.{verdict}
-use Rattle.ledger.specs.Entries.{entryChecks, entryNumber}
-use Rattle.ledger.specs.Posting.{standingChecks}
+use Rattle.ledger.specs.Entries.{entryNumber}
+use Rattle.ledger.specs.Ranges.{inRange}
+use Rattle.ledger.specs.Days.{wrongDay}
+use Rattle.ledger.specs.Posting.{admission, standingChecks}
+use Rattle.ledger.specs.declared.state.Ledger.{Ledger}
 use Rattle.ledger.specs.declared.entries.Entry.{Entry}
 use Rattle.ledger.proofs.postings.admission.Statement.{statement}
 use Rattle.ledger.proofs.postings.admission.Tie as tie
 
-module _ (fits begun : Bool) (today : Date) (e : Entry) (n : ℕ) (p : n ≡ entryNumber e) where
-  wrong : (n ≡ 0 → ⊥) → n ≡ verdict (entryChecks e ++ standingChecks fits begun today e)
-  wrong d = rw p (sym (admission-own fits begun today e (rw p at d)))
+module _ (fits begun touched : Bool) (today : Date) (e : Entry) (n : ℕ) (p : n ≡ entryNumber e) (l : Ledger)
+    (f : inRange l ≡ fits) (b : l .begun ≡ begun) (t : l .touched ≡ touched) (d : l .date ≡ today) where
+  wrong : (n ≡ 0 → ⊥) → n ≡ admission l e
+  wrong not-right = rw p (sym (admission-own l e (rw p at not-right)))
 
-  judged : n ≡ 0 → (same : Bool) (n₁ n₂ n₃ : ℕ)
-      → n₃ ≡ cond (not fits) 20 n₂ → n₂ ≡ cond (not begun && not (eqb (e .kind) 1)) 21 n₁
-      → n₁ ≡ cond (begun && not same) 22 0 → same ≡ sameDate (e .date) today
-      → n₃ ≡ verdict (entryChecks e ++ standingChecks fits begun today e)
+  judged : n ≡ 0 → (same day : Bool) (n₁ n₂ n₃ n₄ : ℕ)
+      → n₄ ≡ cond (not fits) 20 n₃ → n₃ ≡ cond (not begun && not (eqb (e .kind) 1)) 21 n₂
+      → n₂ ≡ cond (begun && not same) 22 n₁ → n₁ ≡ cond day 23 0 → day ≡ wrongDay touched e → same ≡ sameDate (e .date) today
+      → n₄ ≡ admission l e
   unfolding standingChecks verdict
-  judged z same n₁ n₂ n₃ q₃ q₂ q₁ d = cc (admission-standing fits begun today e (sym p ∙ z))
+  judged z same day n₁ n₂ n₃ n₄ q₄ q₃ q₂ q₁ w s = cc (admission-standing l e (sym p ∙ z))
+
+dated : (e : Entry) (n : ℕ) → n ≡ entryNumber e → n ≡ 0 → real (e .date) ≡ true
+dated e n p z = is-real e (own-right e (sym p ∙ z))
+
+wrong-day-requires : tie.Need-wrong-day-requires
+wrong-day-requires c κs = search dated
 
 returns : tie.Need-returns
-returns c = search wrong
+returns c l f b t d = search wrong
 
 returns-2 : tie.Need-returns-2
-returns-2 c = search judged
+returns-2 c l f b t d = search judged
 
 pub admission-spec : {M : Type 1} → statement M
-admission-spec = tie.close (search (needs, tie.spec, returns, returns-2))
+admission-spec = tie.close (search (needs, tie.spec, wrong-day-requires, returns, returns-2))

@@ -14,12 +14,12 @@ use Rattle.ledger.specs.declared.state.Ledger.{Ledger}
 use Rattle.ledger.proofs.terms.post_terms.Statement.{statement}
 use Rattle.ledger.proofs.terms.post_terms.Tie as tie
 
-judged : (l next : Ledger) (e : Entry) (first fits : Bool) (n₁ n₂ n₃ : ℕ) (r : Posted)
-    → r ≡ settle l n₃ next → n₃ ≡ cond (not first) 23 n₂ → n₂ ≡ cond (l .touched) 23 n₁ → n₁ ≡ cond (not fits) 29 0
-    → fits ≡ inRange next → next ≡ termsNext l e → first ≡ firstOfGasYear (e .date)
+judged : (l next : Ledger) (e : Entry) (fits : Bool) (n : ℕ) (r : Posted)
+    → r ≡ settle l n next → n ≡ cond (not fits) 29 0
+    → fits ≡ inRange next → next ≡ termsNext l e
     → r ≡ postTerms l e
 unfolding postTerms termsChecks verdict
-judged l next e first fits n₁ n₂ n₃ r z q₃ q₂ q₁ q p f = cc
+judged l next e fits n r z q₁ q p = cc
 
 terms-next-requires : tie.Need-terms-next-requires
 terms-next-requires c κs = search needs

@@ -1,0 +1,19 @@
+-- Number 23: which day a kind may have.
+use mathlib.Core.Bool.{Bool, false, not, _||_}
+use mathlib.Core.List.{[], _∷_}
+use Rattle.tariff.specs.Dates.{firstOfGasYear, lastOfMonth, lastDate, onMeasurementDay}
+use Rattle.ledger.specs.Kinds as kinds
+use Rattle.ledger.specs.Kinds.{lookup}
+use Rattle.ledger.specs.declared.entries.Entry.{Entry}
+
+-- TERMS and ENROL have April 1, TERMS before anything else is accepted that day; MEASURE has its day; a closing is of the kind that the date asks for, and none comes on the last date of all. Other kinds have any day.
+unfoldable pub wrongDay : Bool → Entry → Bool
+wrongDay touched e =
+    lookup (e .kind)
+    ((kinds.TERMS, not (firstOfGasYear (e .date)) || touched)
+    ∷ (kinds.ENROL, not (firstOfGasYear (e .date)))
+    ∷ (kinds.MEASURE, not (onMeasurementDay (e .date)))
+    ∷ (kinds.CLOSE-DAY, lastOfMonth (e .date) || lastDate (e .date))
+    ∷ (kinds.CLOSE-MONTH, not (lastOfMonth (e .date)) || lastDate (e .date))
+    ∷ [])
+    false
