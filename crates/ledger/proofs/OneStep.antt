@@ -5,7 +5,7 @@ use mathlib.Core.Bool.{Bool, true, false, cond, not, _&&_, _||_, true≢false, f
 use mathlib.Core.List.{List}
 use native.Mathlib.Omega.{arith}
 use lib.Dec.{eqb}
-use lib.IntN.{ℤ, pos, negℤ, _+ℤ_, _-ℤ_, +ℤ-idr}
+use lib.IntN.{ℤ, pos, negℤ, _+ℤ_, _-ℤ_, +ℤ-idr, +ℤ-idl}
 use lib.ListN.{length, getD, set, length-set}
 use lib.Seq.{getD-set-same, getD-set-other}
 use borrow.Author.Tests.{eqb-true, eqb-false}
@@ -145,3 +145,45 @@ module _ (e : Entry) (n : ℕ) (is : e .kind ≡ n) (no-closing : eqb n 8 || eqb
         started = λ _. begun;
         parties = λ z. absurd (eqb-false n 4 no-transfer (sym is ∙ z));
       }
+
+  -- one that stores two, of which the first gives y to the second
+  pub pairs : (l : Ledger) (v w : Account) (y : ℤ) → eqb n 1 ≡ false → Sound l → l .begun ≡ true → e .a < 16 → e .b < 16 → (e .a ≡ e .b → ⊥)
+      → accountInRange v ≡ true → accountInRange w ≡ true
+      → openBank v ≡ openBank (accountAt l (e .a)) +ℤ negℤ y → openBank w ≡ openBank (accountAt l (e .b)) +ℤ y
+      → openOwed v ≡ openOwed (accountAt l (e .a)) → openOwed w ≡ openOwed (accountAt l (e .b))
+      → openDays v ≡ openDays (accountAt l (e .a)) → openDays w ≡ openDays (accountAt l (e .b))
+      → ((i : ℕ) → gainAt n l e (plain 0) i ≡ cond (eqb (e .b) i) y (pos 0) -ℤ cond (eqb (e .a) i) y (pos 0))
+      → Taken l e (plain 0) (withAccount (withAccount l (e .a) v) (e .b) w)
+  unfolding bankOf
+  pairs l v w y no-terms s begun ha hb apart rv rw′ bv bw ov ow dv dw m =
+      record {
+        sound = record { sized = size-stored half (e .b) w size hb; ranged = ranged-stored half (e .b) w size hb (ranged-stored l (e .a) v (s .sized) ha (s .ranged) rv) rw′ };
+        banks = λ i. ap openBank (after i) ∙ moves i (eqb (e .b) i) (eqb (e .a) i) refl refl ∙ ap (λ (z : ℤ). openBank (accountAt l i) +ℤ z) (sym (ap (λ (k : ℕ). gainAt k l e (plain 0) i) is ∙ m i));
+        debts = λ i. ap openOwed (after i) ∙ keeps openOwed i ow ov (eqb (e .b) i) (eqb (e .a) i) refl refl ∙ same-debt i (openOwed (accountAt l i));
+        days = λ i. ap openDays (after i) ∙ keeps openDays i dw dv (eqb (e .b) i) (eqb (e .a) i) refl refl ∙ same-days i (openDays (accountAt l i));
+        retainage = same-rate l (withAccount half (e .b) w) no-terms (unfold withAccount in refl);
+        started = λ _. begun;
+        parties = λ _. (ha, hb);
+      }
+    where
+      half : Ledger
+      half = withAccount l (e .a) v
+
+      size : length (withAccount l (e .a) v .accounts) ≡ 16
+      size = size-stored l (e .a) v (s .sized) ha
+
+      after : (i : ℕ) → accountAt (withAccount (withAccount l (e .a) v) (e .b) w) i ≡ cond (eqb (e .b) i) w (cond (eqb (e .a) i) v (accountAt l i))
+      after i = account-stored half (e .b) w size hb i ∙ ap (λ (c : Account). cond (eqb (e .b) i) w c) (account-stored l (e .a) v (s .sized) ha i)
+
+      moves : (i : ℕ) (t u : Bool) → eqb (e .b) i ≡ t → eqb (e .a) i ≡ u
+          → openBank (cond t w (cond u v (accountAt l i))) ≡ openBank (accountAt l i) +ℤ (cond t y (pos 0) -ℤ cond u y (pos 0))
+      moves i true true p q = absurd (apart (eqb-true (e .a) i q ∙ sym (eqb-true (e .b) i p)))
+      moves i true false p q = rw (← eqb-true (e .b) i p) (bw ∙ ap (λ (z : ℤ). openBank (accountAt l (e .b)) +ℤ z) (sym (+ℤ-idr y)))
+      moves i false true p q = rw (← eqb-true (e .a) i q) (bv ∙ ap (λ (z : ℤ). openBank (accountAt l (e .a)) +ℤ z) (sym (+ℤ-idl (negℤ y))))
+      moves i false false p q = sym (+ℤ-idr (openBank (accountAt l i)))
+
+      keeps : (f : Account → ℤ) (i : ℕ) → f w ≡ f (accountAt l (e .b)) → f v ≡ f (accountAt l (e .a)) → (t u : Bool) → eqb (e .b) i ≡ t → eqb (e .a) i ≡ u
+          → f (cond t w (cond u v (accountAt l i))) ≡ f (accountAt l i)
+      keeps f i p q true u a b = rw (← eqb-true (e .b) i a) p
+      keeps f i p q false true a b = rw (← eqb-true (e .a) i b) q
+      keeps f i p q false false a b = refl

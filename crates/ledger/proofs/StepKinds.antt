@@ -1,7 +1,7 @@
 -- Each kind does what its rule says and nothing more: its ledger differs from the one before in the accounts that it names, and their banks by what it adds.
 use Prim.Native.Nat.{ℕ, _<_}
 use mathlib.Core.Path.{_≡_, refl, sym, ap, _∙_}
-use mathlib.Core.Bool.{Bool, true, false, cond, _&&_, true≢false}
+use mathlib.Core.Bool.{Bool, true, false, cond, not, _&&_, true≢false}
 use mathlib.Core.List.{map}
 use native.Mathlib.Omega.{arith}
 use lib.Dec.{eqb}
@@ -25,7 +25,7 @@ use Rattle.ledger.specs.Terms.{reworked, termsNext, termsChecks}
 use Rattle.ledger.specs.Enrol.{newAccount, enrolled, enrolChecks}
 use Rattle.ledger.specs.Deliver.{delivered, amountUnder, afterDelivery, deliverChecks}
 use Rattle.ledger.specs.Transfer.{giver, receiver, transferChecks}
-use Rattle.ledger.specs.Trade.{traded, afterTrade, tradeChecks}
+use Rattle.ledger.specs.Trade.{booked, traded}
 use Rattle.ledger.specs.Measure.{remeasured, afterMeasure, measureChecks}
 use Rattle.ledger.specs.Usage.{metered, afterUsage, usageChecks}
 use Rattle.ledger.specs.Posting.{admission}
@@ -33,11 +33,13 @@ use Rattle.ledger.specs.Panel.{openBank, bankOf}
 use Rattle.ledger.specs.declared.state.Account.{Account}
 use Rattle.ledger.specs.declared.state.Ledger.{Ledger}
 use Rattle.ledger.specs.declared.entries.Entry.{Entry}
-use Rattle.ledger.proofs.Verdicts.{clear}
+use Rattle.ledger.specs.declared.answers.Change.{Change}
+use Rattle.ledger.proofs.Verdicts.{first, clear}
 use Rattle.ledger.proofs.RightEntries.{a-fits, b-fits, transfer-fits}
 use Rattle.ledger.proofs.Admitted.{is-begun, is-right}
 use Rattle.ledger.proofs.ClosedAccounts.{openOwed, openDays, grows}
-use Rattle.ledger.proofs.OneStep.{Sound, Taken, gainAt, size-stored, account-stored, ranged-stored, same-debt, same-days, same-rate, stores}
+use Rattle.ledger.proofs.OneStep.{Sound, Taken, gainAt, same-debt, same-days, stores, pairs}
+use Rattle.ledger.proofs.Moving.{Moved, gives, takes}
 
 not-chosen : {A : Type 0} (t : Bool) (x y : A) → t ≡ false → cond t x y ≡ y
 not-chosen true x y h = absurd (true≢false h)
@@ -67,37 +69,6 @@ module _ (l : Ledger) (e : Entry) where
   account-reworked i =
       ap (λ (d : Account). getD (map (reworked (termsOf e)) (l .accounts)) i d) (sym nobody-reworked)
       ∙ List·getD-map (reworked (termsOf e)) (l .accounts) i nobody
-
--- ---- the two sides of a TRANSFER
-
-module _ (l : Ledger) (e : Entry) where
-  receiver-bank : accountAt l (e .b) .opened ≡ true → openBank (receiver l e) ≡ openBank (accountAt l (e .b)) +ℤ pos (e .w1)
-  unfolding receiver withBank openBank
-  receiver-bank o =
-      let a = accountAt l (e .b) in
-      grows (a .opened) (more (a .bank) (record { 0 = e .w1 }) .0) (a .bank .0) (pos (e .w1)) o (more-value (a .bank) (record { 0 = e .w1 }))
-
-  giver-bank : accountAt l (e .a) .opened ≡ true → openBank (giver l e) ≡ openBank (accountAt l (e .a)) +ℤ negℤ (pos (e .w1))
-  unfolding giver withBank openBank
-  giver-bank o =
-      let a = accountAt l (e .a) in
-      grows (a .opened) (less (a .bank) (record { 0 = e .w1 }) .0) (a .bank .0) (negℤ (pos (e .w1))) o (less-value (a .bank) (record { 0 = e .w1 }))
-
-  receiver-debt : openOwed (receiver l e) ≡ openOwed (accountAt l (e .b))
-  unfolding receiver withBank
-  receiver-debt = refl
-
-  giver-debt : openOwed (giver l e) ≡ openOwed (accountAt l (e .a))
-  unfolding giver withBank
-  giver-debt = refl
-
-  receiver-days : openDays (receiver l e) ≡ openDays (accountAt l (e .b))
-  unfolding receiver withBank
-  receiver-days = refl
-
-  giver-days : openDays (giver l e) ≡ openDays (accountAt l (e .a))
-  unfolding giver withBank
-  giver-days = refl
 
 -- ---- what each kind does, once it is accepted
 
@@ -151,20 +122,30 @@ module _ (l : Ledger) (e : Entry) (s : Sound l) (h : admission l e ≡ 0) where
       refl
       (λ i. refl)
 
-  pub takes-trade : e .a < 16 → e .kind ≡ kinds.TRADE → verdict (tradeChecks old e) ≡ 0 → Taken l e (plain 0) (withAccount l (e .a) (afterTrade old e))
-  unfolding tradeChecks afterTrade traded withMonth withBank openBank
+  abbrev sign : Bool → ℤ
+  sign sells = cond sells (pos (e .w1)) (negℤ (pos (e .w1)))
+
+  -- the month's trades have no part in the bank
+  booked-moves : (sells : Bool) (y : ℤ) (c : Change) → Moved (booked sells old (record { 0 = e .w1 })) y c → Moved old y c
+  unfolding booked withMonth openBank
+  booked-moves sells y c m = record { ranged = m .ranged; bank = m .bank; debt = m .debt; days = m .days }
+
+  trade-moves : Moved old (sign (companySells e)) (traded old e)
+  unfolding traded
+  trade-moves =
+      either (λ (c : Change). Moved old (sign (companySells e)) c) (companySells e) _ _
+      (λ t. rw t (booked-moves true (pos (e .w1)) _ (takes (e .date .month) (booked true old (record { 0 = e .w1 })) (record { 0 = e .w1 }))))
+      (λ f. rw f (booked-moves false (negℤ (pos (e .w1))) _ (gives (e .date .month) (booked false old (record { 0 = e .w1 })) (record { 0 = e .w1 }))))
+
+  pub takes-trade : e .a < 16 → e .kind ≡ kinds.TRADE → cond (not (old .opened)) 24 (traded old e .number) ≡ 0 → Taken l e (plain 0) (withAccount l (e .a) (traded old e .account))
   takes-trade i is o =
-      stores e 5 is refl l (afterTrade old e) (cond (companySells e) (pos (e .w1)) (negℤ (pos (e .w1)))) refl refl s (begun-before 5 is (λ z. omega (arith, z))) i
-      (not-false (accountInRange (afterTrade old e)) (clear _ refl o 2))
-      (grows (old .opened) (cond (companySells e) (more (old .bank) (record { 0 = e .w1 })) (less (old .bank) (record { 0 = e .w1 })) .0) (old .bank .0)
-      (cond (companySells e) (pos (e .w1)) (negℤ (pos (e .w1)))) (not-false (old .opened) (clear _ refl o 0)) (by-side (companySells e)))
-      refl
-      refl
+      let open-and-moved = first (not (old .opened)) 24 (traded old e .number) refl o in
+      stores e 5 is refl l (traded old e .account) (sign (companySells e)) refl refl s (begun-before 5 is (λ z. omega (arith, z))) i
+      (trade-moves .ranged (open-and-moved .1))
+      (trade-moves .bank (not-false (old .opened) (open-and-moved .0)))
+      (trade-moves .debt)
+      (trade-moves .days)
       (λ i. refl)
-    where
-      by-side : (t : Bool) → cond t (more (old .bank) (record { 0 = e .w1 })) (less (old .bank) (record { 0 = e .w1 })) .0 ≡ old .bank .0 +ℤ cond t (pos (e .w1)) (negℤ (pos (e .w1)))
-      by-side true = more-value (old .bank) (record { 0 = e .w1 })
-      by-side false = less-value (old .bank) (record { 0 = e .w1 })
 
   pub takes-measure : e .a < 16 → e .kind ≡ kinds.MEASURE → verdict (measureChecks old e) ≡ 0 → Taken l e (plain 0) (withAccount l (e .a) (afterMeasure old e))
   unfolding measureChecks afterMeasure remeasured withMarks withMeasure openBank
@@ -188,51 +169,21 @@ module _ (l : Ledger) (e : Entry) (s : Sound l) (h : admission l e ≡ 0) where
 
   -- ---- TRANSFER stores two accounts
 
-  abbrev other : Account
-  other = accountAt l (e .b)
-
-  abbrev half : Ledger
-  half = withAccount l (e .a) (giver l e)
-
-  pub takes-transfer : e .kind ≡ kinds.TRANSFER → verdict (transferChecks l e) ≡ 0 → Taken l e (plain 0) (withAccount half (e .b) (receiver l e))
-  unfolding transferChecks bankOf kindOf lookup
+  pub takes-transfer : e .kind ≡ kinds.TRANSFER → verdict (transferChecks l e) ≡ 0
+      → Taken l e (plain 0) (withAccount (withAccount l (e .a) (giver l e .account)) (e .b) (receiver l e .account))
+  unfolding transferChecks kindOf lookup giver receiver
   takes-transfer is o =
       let two : kindOf (e .kind) .accounts ≡ 2 = rw is in
-      let ha : e .a < 16 = a-fits e (is-right l e h) (omega arith) in
-      let hb : e .b < 16 = b-fits e (is-right l e h) (omega arith) in
-      let both : old .opened && other .opened ≡ true = not-false (old .opened && other .opened) (clear _ refl o 0) in
-      let fit : accountInRange (giver l e) && accountInRange (receiver l e) ≡ true = not-false (accountInRange (giver l e) && accountInRange (receiver l e)) (clear _ refl o 2) in
-      let n′ : length (half .accounts) ≡ 16 = size-stored l (e .a) (giver l e) (s .sized) ha in
-      let after′ : (i : ℕ) → accountAt (withAccount half (e .b) (receiver l e)) i ≡ cond (eqb (e .b) i) (receiver l e) (cond (eqb (e .a) i) (giver l e) (accountAt l i)) =
-      λ i. account-stored half (e .b) (receiver l e) n′ hb i ∙ ap (λ (c : Account). cond (eqb (e .b) i) (receiver l e) c) (account-stored l (e .a) (giver l e) (s .sized) ha i) in
-      record {
-        sound =
-            record {
-              sized = size-stored half (e .b) (receiver l e) n′ hb;
-              ranged = ranged-stored half (e .b) (receiver l e) n′ hb (ranged-stored l (e .a) (giver l e) (s .sized) ha (s .ranged) (and-left (accountInRange (giver l e)) (accountInRange (receiver l e)) fit)) (and-right (accountInRange (giver l e)) (accountInRange (receiver l e)) fit);
-            };
-        banks = λ i.
-            ap openBank (after′ i)
-            ∙ moves-both i (transfer-fits e (is-right l e h) is .1) (and-left (old .opened) (other .opened) both) (and-right (old .opened) (other .opened) both) (eqb (e .b) i) (eqb (e .a) i) refl refl
-            ∙ ap (λ (z : ℤ). openBank (accountAt l i) +ℤ z) (sym (ap (λ (m : ℕ). gainAt m l e (plain 0) i) is));
-        debts = λ i. ap openOwed (after′ i) ∙ keeps-both openOwed i (receiver-debt l e) (giver-debt l e) (eqb (e .b) i) (eqb (e .a) i) refl refl ∙ same-debt e 4 is refl i (openOwed (accountAt l i));
-        days = λ i. ap openDays (after′ i) ∙ keeps-both openDays i (receiver-days l e) (giver-days l e) (eqb (e .b) i) (eqb (e .a) i) refl refl ∙ same-days e 4 is refl i (openDays (accountAt l i));
-        retainage = same-rate e 4 is refl l (withAccount half (e .b) (receiver l e)) refl (unfold withAccount in refl);
-        started = λ _. begun-before 4 is (λ z. omega (arith, z));
-        parties = λ _. (ha, hb);
-      }
-    where
-      moves-both : (i : ℕ) → (e .a ≡ e .b → ⊥) → old .opened ≡ true → other .opened ≡ true → (t u : Bool) → eqb (e .b) i ≡ t → eqb (e .a) i ≡ u
-          → openBank (cond t (receiver l e) (cond u (giver l e) (accountAt l i))) ≡ openBank (accountAt l i) +ℤ (cond t (pos (e .w1)) (pos 0) -ℤ cond u (pos (e .w1)) (pos 0))
-      moves-both i d p q true true v w = absurd (d (eqb-true (e .a) i w ∙ sym (eqb-true (e .b) i v)))
-      moves-both i d p q true false v w =
-          rw (← eqb-true (e .b) i v) (receiver-bank l e q ∙ ap (λ (z : ℤ). openBank other +ℤ z) (sym (+ℤ-idr (pos (e .w1)))))
-      moves-both i d p q false true v w =
-          rw (← eqb-true (e .a) i w) (giver-bank l e p ∙ ap (λ (z : ℤ). openBank old +ℤ z) (sym (+ℤ-idl (negℤ (pos (e .w1))))))
-      moves-both i d p q false false v w = sym (+ℤ-idr (openBank (accountAt l i)))
-
-      keeps-both : (f : Account → ℤ) (i : ℕ) → f (receiver l e) ≡ f other → f (giver l e) ≡ f old → (t u : Bool) → eqb (e .b) i ≡ t → eqb (e .a) i ≡ u
-          → f (cond t (receiver l e) (cond u (giver l e) (accountAt l i))) ≡ f (accountAt l i)
-      keeps-both f i p q true u v w = rw (← eqb-true (e .b) i v) p
-      keeps-both f i p q false true v w = rw (← eqb-true (e .a) i w) q
-      keeps-both f i p q false false v w = refl
+      let right = is-right l e h in
+      let gave = gives (e .date .month) (accountAt l (e .a)) (record { 0 = e .w1 }) in
+      let took = takes (e .date .month) (accountAt l (e .b)) (record { 0 = e .w1 }) in
+      let open′ = not-false (accountAt l (e .a) .opened && accountAt l (e .b) .opened) (clear _ refl o 0) in
+      let free = not-false (eqb (giver l e .number) 0 && eqb (receiver l e .number) 0) (clear _ refl o 2) in
+      pairs e 4 is refl l (giver l e .account) (receiver l e .account) (pos (e .w1)) refl s (begun-before 4 is (λ z. omega (arith, z)))
+      (a-fits e right (omega arith)) (b-fits e right (omega arith)) (transfer-fits e right is .1)
+      (gave .ranged (eqb-true (giver l e .number) 0 (and-left (eqb (giver l e .number) 0) (eqb (receiver l e .number) 0) free)))
+      (took .ranged (eqb-true (receiver l e .number) 0 (and-right (eqb (giver l e .number) 0) (eqb (receiver l e .number) 0) free)))
+      (gave .bank (and-left (accountAt l (e .a) .opened) (accountAt l (e .b) .opened) open′))
+      (took .bank (and-right (accountAt l (e .a) .opened) (accountAt l (e .b) .opened) open′))
+      (gave .debt) (took .debt) (gave .days) (took .days)
+      (λ i. refl)

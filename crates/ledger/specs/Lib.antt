@@ -7,6 +7,7 @@ pub mod Answers
 pub mod Terms
 pub mod Enrol
 pub mod Deliver
+pub mod Gas
 pub mod Transfer
 pub mod Trade
 pub mod Measure

@@ -1,14 +1,11 @@
 -- "TRADE: A; flag 0 company sells to A, 1 buys"
-use mathlib.Core.Bool.{Bool, cond, not}
-use mathlib.Core.List.{List, [], _∷_}
-use Rattle.tariff.specs.Amounts.{more, less, together}
-use Rattle.tariff.specs.Limits.{aboveMaximum, belowMinimum}
+use mathlib.Core.Bool.{Bool, true, false, cond, not}
+use Rattle.tariff.specs.Amounts.{together}
 use Rattle.tariff.specs.declared.amounts.Quantity.{Quantity}
 use Rattle.tariff.specs.declared.bill.Totals.{Totals}
-use Rattle.ledger.specs.Checks.{Check, verdict}
 use Rattle.ledger.specs.Entries.{companySells}
-use Rattle.ledger.specs.State.{withBank, withMonth}
-use Rattle.ledger.specs.Ranges.{accountInRange}
+use Rattle.ledger.specs.State.{withMonth}
+use Rattle.ledger.specs.Gas.{giving, taking}
 use Rattle.ledger.specs.declared.state.Account.{Account}
 use Rattle.ledger.specs.declared.entries.Entry.{Entry}
 use Rattle.ledger.specs.declared.answers.Change.{Change}
@@ -25,23 +22,17 @@ withTrade sells m q =
       usage = m .usage;
     }
 
-unfoldable pub traded : Bool → Account → Quantity → Account
-traded sells a q =
-    withMonth (withBank a (cond sells (more (a .bank) q) (less (a .bank) q))) (withTrade sells (a .month) q)
+-- the account whose month has the trade
+unfoldable pub booked : Bool → Account → Quantity → Account
+booked sells a q = withMonth a (withTrade sells (a .month) q)
 
-unfoldable pub afterTrade : Account → Entry → Account
-afterTrade a e = traded (companySells e) a (record { 0 = e .w1 })
-
--- past the maximum by a sale, below the minimum by a purchase
-unfoldable pub pastLimit : Account → Entry → Bool
-pastLimit a e =
+-- and then takes what the company sells, or gives what it buys
+unfoldable pub traded : Account → Entry → Change
+traded a e =
     cond (companySells e)
-    (aboveMaximum (e .date .month) (afterTrade a e .capacity .bcq) (afterTrade a e .bank))
-    (belowMinimum (e .date .month) (afterTrade a e .capacity .bcq) (afterTrade a e .bank))
+    (taking (e .date .month) (booked true a (record { 0 = e .w1 })) (record { 0 = e .w1 }))
+    (giving (e .date .month) (booked false a (record { 0 = e .w1 })) (record { 0 = e .w1 }))
 
-unfoldable pub tradeChecks : Account → Entry → List Check
-tradeChecks a e =
-    (not (a .opened), 24) ∷ (pastLimit a e, 28) ∷ (not (accountInRange (afterTrade a e)), 29) ∷ []
-
+-- 24: the account is not open; then what its gas says
 unfoldable pub trade : Account → Entry → Change
-trade a e = record { number = verdict (tradeChecks a e); account = afterTrade a e }
+trade a e = record { number = cond (not (a .opened)) 24 (traded a e .number); account = traded a e .account }

@@ -5,6 +5,7 @@ mod closing;
 mod deliver;
 mod enrol;
 mod entries;
+mod gas;
 mod kinds;
 mod measure;
 mod panels;

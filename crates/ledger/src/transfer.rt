@@ -7,12 +7,11 @@ use crate::answers::Posted;
 use crate::answers::settle;
 use crate::checks::refuse;
 use crate::entries::Entry;
-use crate::ranges::account_in_range;
+use crate::gas::give;
+use crate::gas::take;
 use crate::state::Ledger;
 use crate::state::with_account;
 use tariff::amounts::Quantity;
-use tariff::limits::above_maximum;
-use tariff::limits::below_minimum;
 
 pub fn post_transfer(l: Ledger, e: Entry) -> Posted
     requires { ⌜ (admission l e ≡ 0) × (e .kind ≡ TRANSFER) ⌝ }
@@ -23,17 +22,18 @@ pub fn post_transfer(l: Ledger, e: Entry) -> Posted
     let date = e.date;
     let month = date.month;
     let q = Quantity(e.w1);
-    let mut giver = l.accounts[i];
-    let mut receiver = l.accounts[j];
-    let closed = !(giver.opened & receiver.opened);
-    let given = giver.bank.less(q);
-    let received = receiver.bank.more(q);
-    giver.bank = given;
-    receiver.bank = received;
-    let low = below_minimum(month, giver.capacity.bcq, given);
-    let high = above_maximum(month, receiver.capacity.bcq, received);
-    let out = !(account_in_range(giver) & account_in_range(receiver));
-    let n = refuse(24, closed, refuse(28, low | high, refuse(29, out, 0)));
+    let a = l.accounts[i];
+    let b = l.accounts[j];
+    let shut = !(a.opened & b.opened);
+    let given = give(month, a, q);
+    let taken = take(month, b, q);
+    let x = given.number;
+    let y = taken.number;
+    let giver = given.account;
+    let receiver = taken.account;
+    let past = (x == 28) | (y == 28);
+    let out = !((x == 0) & (y == 0));
+    let n = refuse(24, shut, refuse(28, past, refuse(29, out, 0)));
     let half = with_account(l, i, giver);
     let next = with_account(half, j, receiver);
     settle(l, n, next)

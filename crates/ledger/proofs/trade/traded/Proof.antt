@@ -1,37 +1,44 @@
--- The account is in range and the amount is small, so neither the bank nor the month's total leaves its type.
-use native.Mathlib.Omega.{arith}
+-- What a month's trades say has no part in bank and BCQ, so an account in range may give and take after the trade is booked.
+use borrow.Author.Needs.{needs}
+use Prim.Native.Nat.{_≤_}
+use mathlib.Core.Bool.{Bool, true, false}
+use mathlib.Core.Path.{_≡_}
+use Rattle.tariff.specs.Amounts.{size}
 use Rattle.ledger.proofs.Bounded.{Bounded, bounded}
-use Rattle.ledger.specs.State.{withBank, withMonth}
-use Rattle.ledger.specs.Trade.{traded, withTrade}
+use Rattle.ledger.specs.Entries.{companySells}
+use Rattle.ledger.specs.Gas.{giving, taking}
+use Rattle.ledger.specs.State.{withMonth}
+use Rattle.ledger.specs.Trade.{booked, traded}
+use Rattle.ledger.specs.declared.answers.Change.{Change}
+use Rattle.ledger.specs.declared.entries.Entry.{Entry}
+use Rattle.ledger.specs.declared.state.Account.{Account}
 use Rattle.ledger.proofs.trade.traded.Statement.{statement}
 use Rattle.ledger.proofs.trade.traded.Tie as tie
 
-known : (s : tie.Start) → Bounded (s .args .a)
-known s = bounded (s .args .a) (s .pre .0)
+module _ (a b : Account) (e : Entry) (sells : Bool) (c : Change) (is : sells ≡ companySells e) (k : b ≡ booked sells a (record { 0 = e .w1 })) where
+  sold : sells ≡ true → c ≡ taking (e .date .month) b (record { 0 = e .w1 }) → c ≡ traded a e
+  unfolding traded
+  sold t p = cc
 
-returns : tie.Need-returns
-unfolding traded withBank withMonth withTrade
-returns c = rw (
-  (let at : tie.After-plus = search in at .plus .ensures),
-  (let at : tie.After-more = search in at .more .ensures .0),
-  (let at : tie.Then1 = search in at .if1 .taken),
-)
+  bought : sells ≡ false → c ≡ giving (e .date .month) b (record { 0 = e .w1 }) → c ≡ traded a e
+  unfolding traded
+  bought f p = cc
 
-returns-2 : tie.Need-returns-2
-unfolding traded withBank withMonth withTrade
-returns-2 c = rw (
-  (let at : tie.After-plus2 = search in at .plus2 .ensures),
-  (let at : tie.After-less = search in at .less .ensures .0),
-  (let at : tie.Else1 = search in at .if1 .left),
-)
+-- what giving and taking ask
+asked : (c : tie.After-booked) → (size (c .booked .result .bank) ≤ 100000000000) × (c .booked .result .capacity .bcq .0 ≤ 30000000)
+unfolding booked withMonth
+asked c =
+    let s : tie.Start = search in
+    let known = bounded (s .args .a) (s .pre .0) in
+    rw (c .booked .ensures) (known .bank, known .bcq)
 
 pub traded-spec : {M : Type 1} → statement M
 traded-spec =
     tie.close
     (tie.spec
-    (λ c κs. omega (arith, known (search)))
-    (λ c κs. omega (arith, known (search)))
-    returns
-    (λ c κs. omega (arith, known (search)))
-    (λ c κs. omega (arith, known (search)))
-    returns-2)
+    (search needs)
+    (λ c κs. search needs)
+    (λ c κs. let k = asked (search) in (k .0, k .1, search))
+    (λ c. search sold)
+    (λ c κs. let k = asked (search) in (k .0, k .1, search))
+    (λ c. search bought))
