@@ -40,7 +40,7 @@ totals-bounded m h =
 
 pub record Bounded (a : Account) : Type 0 where
   pub bank : size (a .bank) ≤ 100000000000
-  pub month : TotalsBounded (a .month)
+  pub totals : TotalsBounded (a .month .totals)
   pub over : a .step .over ≤ 2
   pub under : a .step .under ≤ 2
   pub mdq : a .mdq .0 ≤ 300000
@@ -55,7 +55,7 @@ unfolding accountInRange stepInRange
 bounded a h =
     record {
       bank = within-size 1000000000 100000000000 (a .bank) (search parts depth 9) (omega arith);
-      month = totals-bounded (a .month) (search parts depth 9);
+      totals = totals-bounded (a .month .totals) (search parts depth 9);
       over = leb-true (a .step .over) 2 (search parts depth 9);
       under = leb-true (a .step .under) 2 (search parts depth 9);
       mdq = leb-true (a .mdq .0) 300000 (search parts depth 9);

@@ -11,7 +11,7 @@ use Rattle.tariff.specs.declared.amounts.Units.{Units}
 use Rattle.tariff.specs.declared.terms.Terms.{Terms}
 use Rattle.tariff.proofs.Laws.{sum-value, less-value, added-value, in-and-out, inward-zero, outward-zero}
 use Rattle.ledger.specs.Entries.{pricesOf}
-use Rattle.ledger.specs.State.{nobody, accountAt}
+use Rattle.ledger.specs.State.{nobody, accountAt, withBank, withCapacity, withCarry, withDays, withExcuse, withMeasure, withMonth, withToday, withTotals}
 use Rattle.ledger.specs.Answers.{quiet}
 use Rattle.ledger.specs.Closing.{violationsOf, cashAt, dayEnd, dayClosed, forfeitAt, billAt, monthEnd, monthClosed, closedDay, closedMonth, notOpen, closedAccount, accountClosed, reportOf, closed}
 use Rattle.ledger.specs.Panel.{openBank}
@@ -92,7 +92,7 @@ module _ (t : Terms) (e : Entry) (a : Account) where
       (day-more (eqb mask 0) (a .«violation_days»))
 
   of-day : a .opened ≡ true → Accounted a (closedDay (e .date) a)
-  unfolding closedDay dayClosed dayEnd openBank
+  unfolding closedDay dayClosed dayEnd withToday withDays withExcuse withTotals withMonth withBank openBank
   of-day o =
       record {
         bank =
@@ -109,7 +109,7 @@ module _ (t : Terms) (e : Entry) (a : Account) where
   forfeit = pos (forfeitAt (e .date) t c .0)
 
   of-month : a .opened ≡ true → Accounted a (closedMonth (e .date) t (pricesOf e) a)
-  unfolding closedMonth monthClosed monthEnd dayClosed dayEnd openBank
+  unfolding closedMonth monthClosed monthEnd withCarry withCapacity withMeasure dayClosed dayEnd withToday withDays withExcuse withTotals withMonth withBank openBank
   of-month o =
       record {
         bank =

@@ -5,7 +5,7 @@ use mathlib.Core.Bool.{true, false}
 use lib.IntN.{pos}
 use lib.ListN.{getD, replicate}
 use Rattle.tariff.proofs.Laws.{within-zero, within-mills-zero}
-use Rattle.ledger.specs.State.{noTotals, nobody, fresh, accountAt}
+use Rattle.ledger.specs.State.{noMonth, noTotals, nobody, fresh, accountAt}
 use Rattle.ledger.specs.Ranges.{totalsInRange, stepInRange, accountInRange, everyAccount, inRange}
 use Rattle.ledger.specs.Panel.{openBank, bankOf}
 use Rattle.ledger.proofs.ClosedAccounts.{openOwed, openDays}
@@ -21,11 +21,11 @@ fresh-account i = same 16 i
     same (suc n) (suc i) = same n i
 
 nobody-ranged : accountInRange nobody ≡ true
-unfolding accountInRange totalsInRange stepInRange nobody noTotals
+unfolding accountInRange totalsInRange stepInRange nobody noMonth noTotals
 nobody-ranged =
     rw (
       within-zero 1000000000 100000000000 (nobody .bank) refl,
-      within-zero 100000000000 100000000000 (nobody .month .net) refl,
+      within-zero 100000000000 100000000000 (nobody .month .totals .net) refl,
       within-mills-zero 1000000000000000 (nobody .owed) refl,
     )
 

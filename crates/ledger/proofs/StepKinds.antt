@@ -18,7 +18,7 @@ use Rattle.ledger.specs.Kinds as kinds
 use Rattle.ledger.specs.Kinds.{lookup, kindOf}
 use Rattle.ledger.specs.Checks.{verdict}
 use Rattle.ledger.specs.Entries.{termsOf, companySells}
-use Rattle.ledger.specs.State.{nobody, accountAt, withBank, withMonth, withMarks, withMeasure, withCapacity, withAccount}
+use Rattle.ledger.specs.State.{nobody, accountAt, asOpen, withBank, withMonth, withTotals, withToday, withMeasure, withCapacity, withAccount}
 use Rattle.ledger.specs.Ranges.{accountInRange, inRange}
 use Rattle.ledger.specs.Answers.{plain}
 use Rattle.ledger.specs.Terms.{reworked, termsNext, termsChecks}
@@ -101,7 +101,7 @@ module _ (l : Ledger) (e : Entry) (s : Sound l) (h : admission l e ≡ 0) where
       reworks f g i = ap f (account-reworked l e i) ∙ rework-keeps f (termsOf e) (accountAt l i) g
 
   pub takes-enrol : e .a < 16 → e .kind ≡ kinds.ENROL → verdict (enrolChecks (l .terms) old e) ≡ 0 → Taken l e (plain 0) (withAccount l (e .a) (enrolled (l .terms) e))
-  unfolding enrolChecks enrolled newAccount openBank
+  unfolding enrolChecks enrolled newAccount asOpen withBank withMeasure withCapacity nobody openBank
   takes-enrol i is o =
       let shut : old .opened ≡ false = clear _ refl o 0 in
       stores e 2 is refl l (enrolled (l .terms) e) (pos (e .w2)) refl refl s (begun-before 2 is (λ z. omega (arith, z))) i
@@ -112,7 +112,7 @@ module _ (l : Ledger) (e : Entry) (s : Sound l) (h : admission l e ≡ 0) where
       (λ i. refl)
 
   pub takes-deliver : e .a < 16 → e .kind ≡ kinds.DELIVER → verdict (deliverChecks (l .terms .retainage) old e) ≡ 0 → Taken l e (plain 0) (withAccount l (e .a) (afterDelivery (l .terms .retainage) old e))
-  unfolding deliverChecks afterDelivery delivered withMarks withMonth withBank openBank
+  unfolding deliverChecks afterDelivery delivered withToday withTotals withMonth withBank openBank
   takes-deliver i is o =
       let amount = amountUnder (l .terms .retainage) e in
       stores e 3 is refl l (afterDelivery (l .terms .retainage) old e) (amount .0) refl refl s (begun-before 3 is (λ z. omega (arith, z))) i
@@ -127,7 +127,7 @@ module _ (l : Ledger) (e : Entry) (s : Sound l) (h : admission l e ≡ 0) where
 
   -- the month's trades have no part in the bank
   booked-moves : (sells : Bool) (y : ℤ) (c : Change) → Moved (booked sells old (record { 0 = e .w1 })) y c → Moved old y c
-  unfolding booked withMonth openBank
+  unfolding booked withMonth withTotals openBank
   booked-moves sells y c m = record { ranged = m .ranged; bank = m .bank; debt = m .debt; days = m .days }
 
   trade-moves : Moved old (sign (companySells e)) (traded old e)
@@ -148,7 +148,7 @@ module _ (l : Ledger) (e : Entry) (s : Sound l) (h : admission l e ≡ 0) where
       (λ i. refl)
 
   pub takes-measure : e .a < 16 → e .kind ≡ kinds.MEASURE → verdict (measureChecks old e) ≡ 0 → Taken l e (plain 0) (withAccount l (e .a) (afterMeasure old e))
-  unfolding measureChecks afterMeasure remeasured withMarks withMeasure openBank
+  unfolding measureChecks afterMeasure remeasured withMonth withMeasure openBank
   takes-measure i is o =
       stores e 6 is refl l (afterMeasure old e) (pos 0) refl refl s (begun-before 6 is (λ z. omega (arith, z))) i
       (not-false (accountInRange (afterMeasure old e)) (clear _ refl o 2))
@@ -158,7 +158,7 @@ module _ (l : Ledger) (e : Entry) (s : Sound l) (h : admission l e ≡ 0) where
       (λ i. sym (either-way (eqb (e .a) i) (pos 0)))
 
   pub takes-usage : e .a < 16 → e .kind ≡ kinds.USAGE → verdict (usageChecks old e) ≡ 0 → Taken l e (plain 0) (withAccount l (e .a) (afterUsage old e))
-  unfolding usageChecks afterUsage metered withMarks withMonth openBank
+  unfolding usageChecks afterUsage metered withMonth openBank
   takes-usage i is o =
       stores e 7 is refl l (afterUsage old e) (pos 0) refl refl s (begun-before 7 is (λ z. omega (arith, z))) i
       (not-false (accountInRange (afterUsage old e)) (clear _ refl o 2))

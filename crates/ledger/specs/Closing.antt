@@ -17,16 +17,16 @@ use Rattle.tariff.specs.declared.bill.Prices.{Prices}
 use Rattle.tariff.specs.declared.bill.Totals.{Totals}
 use Rattle.tariff.specs.declared.dates.Date.{Date}
 use Rattle.tariff.specs.declared.terms.Capacity.{Capacity}
+use Rattle.tariff.specs.declared.steps.Step.{Step}
 use Rattle.tariff.specs.declared.terms.Terms.{Terms}
 use Rattle.ledger.specs.Kinds as kinds
 use Rattle.ledger.specs.Checks.{Check, verdict}
 use Rattle.ledger.specs.Entries.{pricesOf}
-use Rattle.ledger.specs.State.{noTotals}
+use Rattle.ledger.specs.State.{noMonth, noToday, withBank, withCapacity, withCarry, withDays, withExcuse, withMeasure, withMonth, withToday, withTotals}
 use Rattle.ledger.specs.Ranges.{accountInRange, everyAccount}
 use Rattle.ledger.specs.Answers.{quiet, refused}
 use Rattle.ledger.specs.declared.state.Account.{Account}
 use Rattle.ledger.specs.declared.state.Ledger.{Ledger}
-use Rattle.ledger.specs.declared.state.Marks.{Marks}
 use Rattle.ledger.specs.declared.entries.Entry.{Entry}
 use Rattle.ledger.specs.declared.answers.Report.{Report}
 use Rattle.ledger.specs.declared.answers.Posted.{Posted}
@@ -40,16 +40,16 @@ limitOf d a = withdrawalLimit (d .month) (a .capacity .bcq) (a .carry)
 -- V1 and V2 are the day's marks; V3 to V8 are judged on the account as the closing finds it
 unfoldable pub violationsOf : Date → Account → ℕ
 violationsOf d a =
-    maskOf (a .marks .v1) (a .marks .v2)
-    (breaksV3 (d .month) (a .capacity .bcq) (a .month .net))
-    (breaksV4 (d .month) (limitOf d a) (a .month .net))
-    (breaksV5 d (a .capacity .bcq) (a .month .net))
+    maskOf (a .today .v1) (a .today .v2)
+    (breaksV3 (d .month) (a .capacity .bcq) (a .month .totals .net))
+    (breaksV4 (d .month) (limitOf d a) (a .month .totals .net))
+    (breaksV5 d (a .capacity .bcq) (a .month .totals .net))
     (breaksV6 d (a .capacity .bcq) (a .bank))
     (breaksV7 (a .bank))
-    (breaksV8 (a .marks .excused) (a .capacity .bcq) (a .bank))
+    (breaksV8 (a .excused) (a .capacity .bcq) (a .bank))
 
 unfoldable pub cashAt : Date → Account → Units
-cashAt d a = cashOf (d .month) (a .marks .excused) (a .capacity .bcq) (a .bank)
+cashAt d a = cashOf (d .month) (a .excused) (a .capacity .bcq) (a .bank)
 
 unfoldable pub withCash : Totals → Units → Totals
 withCash m cash =
@@ -62,33 +62,18 @@ withCash m cash =
       usage = m .usage;
     }
 
--- the day's marks clear, and the excuse ends where the bank after cash fits
-unfoldable pub dayMarks : Date → Account → Units → Marks
-dayMarks d a bank =
-    record {
-      delivered = false;
-      measured = a .marks .measured;
-      metered = a .marks .metered;
-      v1 = false;
-      v2 = false;
-      excused = a .marks .excused && not (endsExcuse (d .month) (a .capacity .bcq) bank);
-    }
+-- the excuse ends where the bank after cash fits
+unfoldable pub excusedStill : Date → Account → Units → Bool
+excusedStill d a bank = a .excused && not (endsExcuse (d .month) (a .capacity .bcq) bank)
 
--- the account after the violations and the cash of the day
+-- the account after the violations and the cash of the day, which is over
 unfoldable pub dayEnd : Date → ℕ → Units → Account → Account
 dayEnd d mask cash a =
-    record {
-      opened = a .opened;
-      bank = sum (a .bank) cash;
-      mdq = a .mdq;
-      step = a .step;
-      capacity = a .capacity;
-      month = withCash (a .month) cash;
-      carry = a .carry;
-      owed = a .owed;
-      «violation_days» = a .«violation_days» + cond (eqb mask 0) 0 1;
-      marks = dayMarks d a (sum (a .bank) cash);
-    }
+    withToday
+    (withDays
+    (withExcuse (withTotals (withBank a (sum (a .bank) cash)) (withCash (a .month .totals) cash)) (excusedStill d a (sum (a .bank) cash)))
+    (a .«violation_days» + cond (eqb mask 0) 0 1))
+    noToday
 
 unfoldable pub dayClosed : Date → Account → Account
 dayClosed d a = dayEnd d (violationsOf d a) (cashAt d a) a
@@ -96,43 +81,27 @@ dayClosed d a = dayEnd d (violationsOf d a) (cashAt d a) a
 -- ---- "CLOSE MONTH then, months named being the one closed: bill = …, added to owed. Carry = …. Pending becomes k; a fall sets the excuse; MDDQ and BCQ are reworked. Month numbers and marks but the excuse clear. Last, … is forfeited, all of the excess over the reworked BCQ." Of the account that the day's part left:
 
 unfoldable pub billAt : Terms → Prices → Account → Mills
-billAt t p a = billOf t p (a .capacity .mddq) (a .month)
+billAt t p a = billOf t p (a .capacity .mddq) (a .month .totals)
 
+-- MDDQ and BCQ of the step that was pending
 unfoldable pub nextCapacity : Terms → Account → Capacity
 nextCapacity t a = capacityOf t (settledStep (a .step) .k)
 
 unfoldable pub forfeitAt : Date → Terms → Account → Quantity
 forfeitAt d t a = forfeitOf (d .month) (nextCapacity t a .bcq) (a .bank)
 
-unfoldable pub monthMarks : Account → Marks
-monthMarks a =
-    record {
-      delivered = false;
-      measured = false;
-      metered = false;
-      v1 = false;
-      v2 = false;
-      excused = a .marks .excused || falls (a .step);
-    }
-
--- the account with its reworked capacity, what it forfeits and what it is billed
-unfoldable pub monthEnd : Date → Capacity → Quantity → Mills → Account → Account
-monthEnd d capacity forfeit bill a =
-    record {
-      opened = a .opened;
-      bank = less (a .bank) forfeit;
-      mdq = a .mdq;
-      step = settledStep (a .step);
-      capacity = capacity;
-      month = noTotals;
-      carry = carryOf (d .month) (limitOf d a) (a .month .net);
-      owed = added (a .owed) bill;
-      «violation_days» = a .«violation_days»;
-      marks = monthMarks a;
-    }
+-- the account in a new month: with the limit that V4 had, the step and its reworked capacity, what it forfeits and what it is billed
+unfoldable pub monthEnd : Date → Quantity → Step → Capacity → Quantity → Mills → Account → Account
+monthEnd d limit step capacity forfeit bill a =
+    withExcuse
+    (withCarry
+    (withMonth (withCapacity (withMeasure (withBank a (less (a .bank) forfeit)) (a .mdq) step) capacity) noMonth)
+    (carryOf (d .month) limit (a .month .totals .net))
+    (added (a .owed) bill))
+    (a .excused || falls (a .step))
 
 unfoldable pub monthClosed : Date → Terms → Prices → Account → Account
-monthClosed d t p a = monthEnd d (nextCapacity t a) (forfeitAt d t a) (billAt t p a) a
+monthClosed d t p a = monthEnd d (limitOf d a) (settledStep (a .step)) (nextCapacity t a) (forfeitAt d t a) (billAt t p a) a
 
 -- ---- an account at a closing: after the day's part, at the end, and what is reported of it
 
@@ -181,19 +150,17 @@ reportOf t e a = closedAccount t e a .report
 
 -- ---- the checks
 
--- "27 closing while an open account lacks DELIVER, on the measurement day MEASURE, or at month's end USAGE" is what this is not
-unfoldable pub complete : Date → Account → Bool
-complete d a =
-    not (a .opened)
-    || (a .marks .delivered && (not (onMeasurementDay d) || a .marks .measured) && (not (lastOfMonth d) || a .marks .metered))
+-- an account that is open has its DELIVER, on the day that reads the meters its MEASURE, at the month's end its USAGE; 27 where one has not
+unfoldable pub ready : Bool → Bool → Account → Bool
+ready ends reads a = not (a .opened) || (a .today .delivered && (not reads || a .month .measured) && (not ends || a .month .metered))
 
--- "29 a number would leave its range, even one that then clears" is what this is not: after the day's part, and at the end
+-- every number is in its range after the day's part and at the end, month numbers that then clear included; 29 where one is not
 unfoldable pub staysInRange : Terms → Entry → Account → Bool
 staysInRange t e a = accountInRange (closedAccount t e a .day) && accountInRange (closedAccount t e a .account)
 
 unfoldable pub closingChecks : Ledger → Entry → List Check
 closingChecks l e =
-    (not (everyAccount (complete (e .date)) (l .accounts)), 27)
+    (not (everyAccount (ready (lastOfMonth (e .date)) (onMeasurementDay (e .date))) (l .accounts)), 27)
     ∷ (not (everyAccount (staysInRange (l .terms) e) (l .accounts)), 29)
     ∷ []
 

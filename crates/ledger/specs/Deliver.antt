@@ -10,10 +10,10 @@ use Rattle.tariff.specs.declared.bill.Totals.{Totals}
 use Rattle.tariff.specs.declared.months.Month.{Month}
 use Rattle.tariff.specs.declared.terms.Terms.{Terms}
 use Rattle.ledger.specs.Checks.{Check, verdict}
-use Rattle.ledger.specs.State.{withBank, withMonth, withMarks}
+use Rattle.ledger.specs.State.{withBank, withTotals, withToday}
 use Rattle.ledger.specs.Ranges.{accountInRange}
 use Rattle.ledger.specs.declared.state.Account.{Account}
-use Rattle.ledger.specs.declared.state.Marks.{Marks}
+use Rattle.ledger.specs.declared.state.Today.{Today}
 use Rattle.ledger.specs.declared.entries.Entry.{Entry}
 use Rattle.ledger.specs.declared.answers.Change.{Change}
 
@@ -28,23 +28,20 @@ withNet m net =
       usage = m .usage;
     }
 
--- the marks of a delivery: the share looks at the bank before
-unfoldable pub deliveryMarks : Month → Account → Units → Quantity → Marks
-deliveryMarks m a amount backCast =
+-- what the day then knows of its delivery: the share looks at the bank before
+unfoldable pub deliveredToday : Month → Account → Units → Quantity → Today
+deliveredToday m a amount backCast =
     record {
       delivered = true;
-      measured = a .marks .measured;
-      metered = a .marks .metered;
       v1 = breaksV1 m (a .capacity .bcq) amount;
       v2 = breaksV2 (shareOf (a .bank) (a .capacity .bcq) backCast (a .mdq)) (a .capacity .mddq) amount;
-      excused = a .marks .excused;
     }
 
 -- an account after an amount was delivered to it
 unfoldable pub delivered : Month → Account → Units → Quantity → Account
 delivered m a amount backCast =
-    withMarks (withMonth (withBank a (sum (a .bank) amount)) (withNet (a .month) (sum (a .month .net) amount)))
-    (deliveryMarks m a amount backCast)
+    withToday (withTotals (withBank a (sum (a .bank) amount)) (withNet (a .month .totals) (sum (a .month .totals .net) amount)))
+    (deliveredToday m a amount backCast)
 
 -- the amount of an entry under the retainage R
 unfoldable pub amountUnder : ℕ → Entry → Units
@@ -56,7 +53,7 @@ afterDelivery retainage a e = delivered (e .date .month) a (amountUnder retainag
 -- "24 … another kind on one not open"; "26 second DELIVER that day"
 unfoldable pub deliverChecks : ℕ → Account → Entry → List Check
 deliverChecks retainage a e =
-    (not (a .opened), 24) ∷ (a .marks .delivered, 26) ∷ (not (accountInRange (afterDelivery retainage a e)), 29) ∷ []
+    (not (a .opened), 24) ∷ (a .today .delivered, 26) ∷ (not (accountInRange (afterDelivery retainage a e)), 29) ∷ []
 
 unfoldable pub delivery : Terms → Account → Entry → Change
 delivery t a e = record { number = verdict (deliverChecks (t .retainage) a e); account = afterDelivery (t .retainage) a e }

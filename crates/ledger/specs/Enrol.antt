@@ -12,7 +12,7 @@ use Rattle.tariff.specs.declared.amounts.Quantity.{Quantity}
 use Rattle.tariff.specs.declared.terms.Terms.{Terms}
 use Rattle.ledger.specs.Checks.{Check, verdict}
 use Rattle.ledger.specs.Entries.{processOnly, wishes}
-use Rattle.ledger.specs.State.{noTotals, noMarks}
+use Rattle.ledger.specs.State.{asOpen, nobody, withBank, withCapacity, withMeasure}
 use Rattle.ledger.specs.Ranges.{accountInRange}
 use Rattle.ledger.specs.declared.state.Account.{Account}
 use Rattle.ledger.specs.declared.entries.Entry.{Entry}
@@ -20,18 +20,7 @@ use Rattle.ledger.specs.declared.answers.Change.{Change}
 
 unfoldable pub newAccount : Terms → Dth → Quantity → Account
 newAccount t mdq opening =
-    record {
-      opened = true;
-      bank = amountOf opening;
-      mdq = mdq;
-      step = firstStep mdq;
-      capacity = capacityOf t (firstStep mdq .k);
-      month = noTotals;
-      carry = record { 0 = 0 };
-      owed = record { 0 = pos 0 };
-      «violation_days» = 0;
-      marks = noMarks;
-    }
+    withCapacity (withMeasure (withBank (asOpen nobody) (amountOf opening)) mdq (firstStep mdq)) (capacityOf t (firstStep mdq .k))
 
 -- the account that an entry opens
 unfoldable pub enrolled : Terms → Entry → Account

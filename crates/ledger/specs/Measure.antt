@@ -5,26 +5,15 @@ use Rattle.tariff.specs.Dates.{onMeasurementDay}
 use Rattle.tariff.specs.Steps.{measured}
 use Rattle.tariff.specs.declared.amounts.Dth.{Dth}
 use Rattle.ledger.specs.Checks.{Check, verdict}
-use Rattle.ledger.specs.State.{withMeasure, withMarks}
+use Rattle.ledger.specs.State.{withMeasure, withMonth}
 use Rattle.ledger.specs.Ranges.{accountInRange}
 use Rattle.ledger.specs.declared.state.Account.{Account}
-use Rattle.ledger.specs.declared.state.Marks.{Marks}
 use Rattle.ledger.specs.declared.entries.Entry.{Entry}
 use Rattle.ledger.specs.declared.answers.Change.{Change}
 
-unfoldable pub measureMark : Marks → Marks
-measureMark m =
-    record {
-      delivered = m .delivered;
-      measured = true;
-      metered = m .metered;
-      v1 = m .v1;
-      v2 = m .v2;
-      excused = m .excused;
-    }
-
 unfoldable pub remeasured : Account → Dth → Account
-remeasured a mdq = withMarks (withMeasure a mdq (measured (a .step) mdq)) (measureMark (a .marks))
+remeasured a mdq =
+    withMonth (withMeasure a mdq (measured (a .step) mdq)) (record { totals = a .month .totals; measured = true; metered = a .month .metered })
 
 unfoldable pub afterMeasure : Account → Entry → Account
 afterMeasure a e = remeasured a (record { 0 = e .w1 })
@@ -33,7 +22,7 @@ afterMeasure a e = remeasured a (record { 0 = e .w1 })
 unfoldable pub measureChecks : Account → Entry → List Check
 measureChecks a e =
     (not (a .opened), 24)
-    ∷ (a .marks .measured, 26)
+    ∷ (a .month .measured, 26)
     ∷ (not (accountInRange (afterMeasure a e)), 29)
     ∷ []
 

@@ -28,7 +28,7 @@ stepInRange opened s =
 unfoldable pub accountInRange : Account → Bool
 accountInRange a =
     within 1000000000 100000000000 (a .bank)
-    && totalsInRange (a .month)
+    && totalsInRange (a .month .totals)
     && stepInRange (a .opened) (a .step)
     && (leb (a .mdq .0) 300000 && leb (a .capacity .mddq .0) 300000 && leb (a .capacity .bcq .0) 30000000)
     && leb (a .carry .0) 100000000000

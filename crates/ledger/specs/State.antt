@@ -1,16 +1,19 @@
 -- "A fresh ledger has no terms, date or open account. An account holds its bank, MDQ, step k, pending step, two runs, MDDQ, BCQ, month net, month company sales and purchases, month cash-ins and cash-outs, carry, owed, violation days, and marks. The ledger marks that something was accepted today."
 use Prim.Native.Nat.{ℕ}
-use mathlib.Core.Bool.{true, false}
+use mathlib.Core.Bool.{Bool, true, false}
 use lib.IntN.{pos}
 use lib.ListN.{getD, set, replicate}
 use Rattle.tariff.specs.declared.amounts.Units.{Units}
+use Rattle.tariff.specs.declared.amounts.Quantity.{Quantity}
+use Rattle.tariff.specs.declared.amounts.Mills.{Mills}
 use Rattle.tariff.specs.declared.amounts.Dth.{Dth}
 use Rattle.tariff.specs.declared.bill.Totals.{Totals}
 use Rattle.tariff.specs.declared.steps.Step.{Step}
 use Rattle.tariff.specs.declared.terms.Capacity.{Capacity}
 use Rattle.ledger.specs.declared.state.Account.{Account}
 use Rattle.ledger.specs.declared.state.Ledger.{Ledger}
-use Rattle.ledger.specs.declared.state.Marks.{Marks}
+use Rattle.ledger.specs.declared.state.ThisMonth.{ThisMonth}
+use Rattle.ledger.specs.declared.state.Today.{Today}
 
 -- a month in which nothing has moved yet
 unfoldable pub noTotals : Totals
@@ -24,25 +27,37 @@ noTotals =
       usage = record { 0 = 0 };
     }
 
-unfoldable pub noMarks : Marks
-noMarks = record { delivered = false; measured = false; metered = false; v1 = false; v2 = false; excused = false }
+unfoldable pub noMonth : ThisMonth
+unfolding noTotals
+noMonth = record { totals = noTotals; measured = false; metered = false }
+
+-- a day on which nothing has been delivered yet
+unfoldable pub noToday : Today
+noToday = record { delivered = false; v1 = false; v2 = false }
+
+-- an account from its parts
+abbrev pub account : Bool → Bool → Today → Units → Dth → Step → Capacity → ThisMonth → Quantity → Mills → ℕ → Account
+account opened excused today bank mdq step capacity month carry owed days =
+    record {
+      opened = opened;
+      excused = excused;
+      today = today;
+      bank = bank;
+      mdq = mdq;
+      step = step;
+      capacity = capacity;
+      month = month;
+      carry = carry;
+      owed = owed;
+      «violation_days» = days;
+    }
 
 -- an account that is not open, every number at 0
 unfoldable pub nobody : Account
-unfolding noTotals noMarks
+unfolding noTotals noMonth noToday
 nobody =
-    record {
-      opened = false;
-      bank = record { 0 = pos 0 };
-      mdq = record { 0 = 0 };
-      step = record { k = 0; pending = 0; over = 0; under = 0 };
-      capacity = record { mddq = record { 0 = 0 }; bcq = record { 0 = 0 } };
-      month = noTotals;
-      carry = record { 0 = 0 };
-      owed = record { 0 = pos 0 };
-      «violation_days» = 0;
-      marks = noMarks;
-    }
+    account false false noToday (record { 0 = pos 0 }) (record { 0 = 0 }) (record { k = 0; pending = 0; over = 0; under = 0 })
+    (record { mddq = record { 0 = 0 }; bcq = record { 0 = 0 } }) noMonth (record { 0 = 0 }) (record { 0 = pos 0 }) 0
 
 unfoldable pub fresh : Ledger
 fresh =
@@ -67,80 +82,37 @@ accountAt l i = getD (l .accounts) i nobody
 
 -- ---- one part of an account anew
 
+unfoldable pub asOpen : Account → Account
+asOpen a = account true (a .excused) (a .today) (a .bank) (a .mdq) (a .step) (a .capacity) (a .month) (a .carry) (a .owed) (a .«violation_days»)
+
+unfoldable pub withExcuse : Account → Bool → Account
+withExcuse a excused = account (a .opened) excused (a .today) (a .bank) (a .mdq) (a .step) (a .capacity) (a .month) (a .carry) (a .owed) (a .«violation_days»)
+
+unfoldable pub withToday : Account → Today → Account
+withToday a today = account (a .opened) (a .excused) today (a .bank) (a .mdq) (a .step) (a .capacity) (a .month) (a .carry) (a .owed) (a .«violation_days»)
+
 unfoldable pub withBank : Account → Units → Account
-withBank a bank =
-    record {
-      opened = a .opened;
-      bank = bank;
-      mdq = a .mdq;
-      step = a .step;
-      capacity = a .capacity;
-      month = a .month;
-      carry = a .carry;
-      owed = a .owed;
-      «violation_days» = a .«violation_days»;
-      marks = a .marks;
-    }
-
-unfoldable pub withMonth : Account → Totals → Account
-withMonth a month =
-    record {
-      opened = a .opened;
-      bank = a .bank;
-      mdq = a .mdq;
-      step = a .step;
-      capacity = a .capacity;
-      month = month;
-      carry = a .carry;
-      owed = a .owed;
-      «violation_days» = a .«violation_days»;
-      marks = a .marks;
-    }
-
-unfoldable pub withMarks : Account → Marks → Account
-withMarks a marks =
-    record {
-      opened = a .opened;
-      bank = a .bank;
-      mdq = a .mdq;
-      step = a .step;
-      capacity = a .capacity;
-      month = a .month;
-      carry = a .carry;
-      owed = a .owed;
-      «violation_days» = a .«violation_days»;
-      marks = marks;
-    }
+withBank a bank = account (a .opened) (a .excused) (a .today) bank (a .mdq) (a .step) (a .capacity) (a .month) (a .carry) (a .owed) (a .«violation_days»)
 
 unfoldable pub withMeasure : Account → Dth → Step → Account
-withMeasure a mdq step =
-    record {
-      opened = a .opened;
-      bank = a .bank;
-      mdq = mdq;
-      step = step;
-      capacity = a .capacity;
-      month = a .month;
-      carry = a .carry;
-      owed = a .owed;
-      «violation_days» = a .«violation_days»;
-      marks = a .marks;
-    }
+withMeasure a mdq step = account (a .opened) (a .excused) (a .today) (a .bank) mdq step (a .capacity) (a .month) (a .carry) (a .owed) (a .«violation_days»)
 
 unfoldable pub withCapacity : Account → Capacity → Account
-withCapacity a capacity =
-    record {
-      opened = a .opened;
-      bank = a .bank;
-      mdq = a .mdq;
-      step = a .step;
-      capacity = capacity;
-      month = a .month;
-      carry = a .carry;
-      owed = a .owed;
-      «violation_days» = a .«violation_days»;
-      marks = a .marks;
-    }
+withCapacity a capacity = account (a .opened) (a .excused) (a .today) (a .bank) (a .mdq) (a .step) capacity (a .month) (a .carry) (a .owed) (a .«violation_days»)
+
+unfoldable pub withMonth : Account → ThisMonth → Account
+withMonth a month = account (a .opened) (a .excused) (a .today) (a .bank) (a .mdq) (a .step) (a .capacity) month (a .carry) (a .owed) (a .«violation_days»)
+
+-- what is carried into the next month, and what is owed
+unfoldable pub withCarry : Account → Quantity → Mills → Account
+withCarry a carry owed = account (a .opened) (a .excused) (a .today) (a .bank) (a .mdq) (a .step) (a .capacity) (a .month) carry owed (a .«violation_days»)
+
+unfoldable pub withDays : Account → ℕ → Account
+withDays a days = account (a .opened) (a .excused) (a .today) (a .bank) (a .mdq) (a .step) (a .capacity) (a .month) (a .carry) (a .owed) days
+
+-- the month's totals anew
+unfoldable pub withTotals : Account → Totals → Account
+withTotals a totals = withMonth a (record { totals = totals; measured = a .month .measured; metered = a .month .metered })
 
 -- the ledger with one account anew, after something was accepted today
 unfoldable pub withAccount : Ledger → ℕ → Account → Ledger

@@ -4,7 +4,7 @@ use Rattle.tariff.specs.Amounts.{together}
 use Rattle.tariff.specs.declared.amounts.Quantity.{Quantity}
 use Rattle.tariff.specs.declared.bill.Totals.{Totals}
 use Rattle.ledger.specs.Entries.{companySells}
-use Rattle.ledger.specs.State.{withMonth}
+use Rattle.ledger.specs.State.{withTotals}
 use Rattle.ledger.specs.Gas.{giving, taking}
 use Rattle.ledger.specs.declared.state.Account.{Account}
 use Rattle.ledger.specs.declared.entries.Entry.{Entry}
@@ -24,7 +24,7 @@ withTrade sells m q =
 
 -- the account whose month has the trade
 unfoldable pub booked : Bool → Account → Quantity → Account
-booked sells a q = withMonth a (withTrade sells (a .month) q)
+booked sells a q = withTotals a (withTrade sells (a .month .totals) q)
 
 -- and then takes what the company sells, or gives what it buys
 unfoldable pub traded : Account → Entry → Change

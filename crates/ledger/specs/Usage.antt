@@ -4,10 +4,9 @@ use mathlib.Core.List.{List, [], _∷_}
 use Rattle.tariff.specs.declared.amounts.Mcf.{Mcf}
 use Rattle.tariff.specs.declared.bill.Totals.{Totals}
 use Rattle.ledger.specs.Checks.{Check, verdict}
-use Rattle.ledger.specs.State.{withMonth, withMarks}
+use Rattle.ledger.specs.State.{withMonth}
 use Rattle.ledger.specs.Ranges.{accountInRange}
 use Rattle.ledger.specs.declared.state.Account.{Account}
-use Rattle.ledger.specs.declared.state.Marks.{Marks}
 use Rattle.ledger.specs.declared.entries.Entry.{Entry}
 use Rattle.ledger.specs.declared.answers.Change.{Change}
 
@@ -22,19 +21,8 @@ withUsage m usage =
       usage = usage;
     }
 
-unfoldable pub usageMark : Marks → Marks
-usageMark m =
-    record {
-      delivered = m .delivered;
-      measured = m .measured;
-      metered = true;
-      v1 = m .v1;
-      v2 = m .v2;
-      excused = m .excused;
-    }
-
 unfoldable pub metered : Account → Mcf → Account
-metered a usage = withMarks (withMonth a (withUsage (a .month) usage)) (usageMark (a .marks))
+metered a usage = withMonth a (record { totals = withUsage (a .month .totals) usage; measured = a .month .measured; metered = true })
 
 unfoldable pub afterUsage : Account → Entry → Account
 afterUsage a e = metered a (record { 0 = e .w1 })
@@ -42,7 +30,7 @@ afterUsage a e = metered a (record { 0 = e .w1 })
 -- "26 second … USAGE that month"
 unfoldable pub usageChecks : Account → Entry → List Check
 usageChecks a e =
-    (not (a .opened), 24) ∷ (a .marks .metered, 26) ∷ (not (accountInRange (afterUsage a e)), 29) ∷ []
+    (not (a .opened), 24) ∷ (a .month .metered, 26) ∷ (not (accountInRange (afterUsage a e)), 29) ∷ []
 
 unfoldable pub usage : Account → Entry → Change
 usage a e = record { number = verdict (usageChecks a e); account = afterUsage a e }

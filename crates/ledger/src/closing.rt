@@ -11,7 +11,7 @@ ghost use Rattle.ledger.specs.Kinds.{CLOSE-DAY, CLOSE-MONTH};
 ghost use Rattle.ledger.specs.Entries.{pricesOf};
 ghost use Rattle.ledger.specs.Ranges.{accountInRange, everyAccount};
 ghost use Rattle.ledger.specs.Posting.{admission};
-ghost use Rattle.ledger.specs.Closing.{limitOf, violationsOf, cashAt, withCash, dayMarks, dayEnd, monthMarks, monthEnd, nextCapacity, closedDay, closedMonth, closedAccount, staysInRange, complete, closed, postClosing};
+ghost use Rattle.ledger.specs.Closing.{limitOf, violationsOf, cashAt, withCash, excusedStill, dayEnd, monthEnd, closedDay, closedMonth, closedAccount, staysInRange, ready, closed, postClosing};
 use crate::answers::Answer;
 use crate::answers::Posted;
 use crate::answers::Report;
@@ -22,9 +22,8 @@ use crate::kinds;
 use crate::ranges::account_in_range;
 use crate::state::Account;
 use crate::state::Ledger;
-use crate::state::Marks;
-use crate::state::no_marks;
-use crate::state::no_totals;
+use crate::state::no_month;
+use crate::state::no_today;
 use tariff::amounts::Mills;
 use tariff::amounts::Quantity;
 use tariff::amounts::Units;
@@ -44,6 +43,7 @@ use tariff::closing::forfeit;
 use tariff::closing::mask;
 use tariff::closing::withdrawal_limit;
 use tariff::dates::Date;
+use tariff::steps::Step;
 use tariff::terms::Capacity;
 use tariff::terms::Terms;
 
@@ -66,23 +66,22 @@ fn limit(d: Date, a: Account) -> Quantity
     withdrawal_limit(month, bcq, carried)
 }
 
-fn violations(d: Date, a: Account) -> u64
-    requires { ⌜ (real d ≡ true) × (accountInRange a ≡ true) ⌝ }
+fn violations(d: Date, limit: Quantity, a: Account) -> u64
+    requires { ⌜ (real d ≡ true) × (accountInRange a ≡ true) × (limit ≡ limitOf d a) × (limit .0 ≤ 3060000000) ⌝ }
     ensures { λ r. ⌜ r ≡ violationsOf d a ⌝ }
 {
     let month = d.month;
     let bcq = a.capacity.bcq;
-    let net = a.month.net;
+    let net = a.month.totals.net;
     let bank = a.bank;
-    let excused = a.marks.excused;
-    let limit = limit(d, a);
+    let excused = a.excused;
     let v3 = breaks_v3(month, bcq, net);
     let v4 = breaks_v4(month, limit, net);
     let v5 = breaks_v5(d, bcq, net);
     let v6 = breaks_v6(d, bcq, bank);
     let v7 = breaks_v7(bank);
     let v8 = breaks_v8(excused, bcq, bank);
-    mask(a.marks.v1, a.marks.v2, v3, v4, v5, v6, v7, v8)
+    mask(a.today.v1, a.today.v2, v3, v4, v5, v6, v7, v8)
 }
 
 fn cash_at(d: Date, a: Account) -> Units
@@ -93,7 +92,7 @@ fn cash_at(d: Date, a: Account) -> Units
     let month = d.month;
     let bcq = a.capacity.bcq;
     let bank = a.bank;
-    let excused = a.marks.excused;
+    let excused = a.excused;
     cash(month, excused, bcq, bank)
 }
 
@@ -109,19 +108,15 @@ fn with_cash(m: Totals, cash: Units) -> Totals
     next
 }
 
-fn day_marks(d: Date, a: Account, bank: Units) -> Marks
+// Whether the excuse goes on, with the bank after cash.
+fn excused_still(d: Date, a: Account, bank: Units) -> bool
     requires { ⌜ a .capacity .bcq .0 ≤ 30000000 ⌝ }
-    ensures { λ r. ⌜ r ≡ dayMarks d a bank ⌝ }
+    ensures { λ r. ⌜ r ≡ excusedStill d a bank ⌝ }
 {
     let month = d.month;
     let bcq = a.capacity.bcq;
     let ends = ends_excuse(month, bcq, bank);
-    let mut marks = a.marks;
-    marks.delivered = false;
-    marks.v1 = false;
-    marks.v2 = false;
-    marks.excused = marks.excused & !ends;
-    marks
+    a.excused & !ends
 }
 
 // One more violation day where anything was broken.
@@ -139,16 +134,20 @@ fn day_end(d: Date, mask: u64, cash: Units, a: Account) -> Account
     requires { ⌜ (accountInRange a ≡ true) × (size cash ≤ 103060000000) ⌝ }
     ensures { λ r. ⌜ r ≡ dayEnd d mask cash a ⌝ }
 {
-    let month = a.month;
+    let mut month = a.month;
+    let totals = month.totals;
     let bank = a.bank.plus(cash);
-    let totals = with_cash(month, cash);
-    let marks = day_marks(d, a, bank);
+    let cashed = with_cash(totals, cash);
+    let excused = excused_still(d, a, bank);
     let days = days(a.violation_days, mask);
+    let today = no_today();
+    month.totals = cashed;
     let mut next = a;
     next.bank = bank;
-    next.month = totals;
+    next.month = month;
+    next.excused = excused;
     next.violation_days = days;
-    next.marks = marks;
+    next.today = today;
     next
 }
 
@@ -156,7 +155,8 @@ fn close_day(d: Date, a: Account) -> Closed
     requires { ⌜ (real d ≡ true) × (accountInRange a ≡ true) ⌝ }
     ensures { λ r. ⌜ r ≡ closedDay d a ⌝ }
 {
-    let mask = violations(d, a);
+    let limit = limit(d, a);
+    let mask = violations(d, limit, a);
     let cash = cash_at(d, a);
     let day = day_end(d, mask, cash, a);
     let report = Report {
@@ -172,47 +172,36 @@ fn close_day(d: Date, a: Account) -> Closed
     }
 }
 
-fn next_capacity(t: Terms, a: Account) -> Capacity
-    requires { ⌜ (termsInRange t ≡ true) × (a .step .pending ≤ 100) ⌝ }
-    ensures { λ r. ⌜ r ≡ nextCapacity t a ⌝ }
-    ensures bounded { λ r. ⌜ r .bcq .0 ≤ 30000000 ⌝ }
-{
-    let step = a.step.settled();
-    t.capacity(step.k)
-}
-
-fn month_marks(a: Account) -> Marks
-    ensures { λ r. ⌜ r ≡ monthMarks a ⌝ }
-{
-    let fell = a.step.falls();
-    let mut marks = no_marks();
-    marks.excused = a.marks.excused | fell;
-    marks
-}
-
-fn month_end(d: Date, capacity: Capacity, forfeit: Quantity, bill: Mills, a: Account) -> Account
+// In a new month, with the limit that V4 had and the step that the month leaves.
+fn month_end(
+    d: Date,
+    limit: Quantity,
+    step: Step,
+    capacity: Capacity,
+    forfeit: Quantity,
+    bill: Mills,
+    a: Account,
+) -> Account
     requires { ⌜ (size (a .bank) ≤ 300000000000) × (forfeit .0 ≤ 300000000000) ⌝ }
     requires { ⌜ (sizeMills (a .owed) ≤ 1000000000000000) × (sizeMills bill ≤ 2000000000000000) ⌝ }
-    requires { ⌜ (a .capacity .bcq .0 ≤ 30000000) × (size (a .month .net) ≤ 100000000000) ⌝ }
-    ensures { λ r. ⌜ r ≡ monthEnd d capacity forfeit bill a ⌝ }
+    requires { ⌜ (limit .0 ≤ 3060000000) × (size (a .month .totals .net) ≤ 100000000000) ⌝ }
+    ensures { λ r. ⌜ r ≡ monthEnd d limit step capacity forfeit bill a ⌝ }
 {
     let month = d.month;
-    let net = a.month.net;
-    let limit = limit(d, a);
+    let net = a.month.totals.net;
     let carried = carry(month, limit, net);
     let bank = a.bank.less(forfeit);
     let owed = a.owed.plus(bill);
-    let step = a.step.settled();
-    let totals = no_totals();
-    let marks = month_marks(a);
+    let fell = a.step.falls();
+    let empty = no_month();
     let mut next = a;
     next.bank = bank;
     next.step = step;
     next.capacity = capacity;
-    next.month = totals;
+    next.month = empty;
     next.carry = carried;
     next.owed = owed;
-    next.marks = marks;
+    next.excused = a.excused | fell;
     next
 }
 
@@ -222,16 +211,18 @@ fn close_month(d: Date, t: Terms, p: Prices, a: Account) -> Closed
     ensures { λ r. ⌜ r ≡ closedMonth d t p a ⌝ }
 {
     let month = d.month;
-    let mask = violations(d, a);
+    let limit = limit(d, a);
+    let mask = violations(d, limit, a);
     let cash = cash_at(d, a);
     let day = day_end(d, mask, cash, a);
-    let capacity = next_capacity(t, day);
+    let step = a.step.settled();
+    let capacity = t.capacity(step.k);
     let mddq = day.capacity.mddq;
-    let totals = day.month;
+    let totals = day.month.totals;
     let bill = bill(t, p, mddq, totals);
     let bank = day.bank;
     let forfeit = forfeit(month, capacity.bcq, bank);
-    let account = month_end(d, capacity, forfeit, bill, day);
+    let account = month_end(d, limit, step, capacity, forfeit, bill, day);
     let report = Report {
         mask,
         cash,
@@ -258,21 +249,20 @@ fn close_account(t: Terms, e: Entry, a: Account) -> Closed
     close_day(date, a)
 }
 
-fn complete(d: Date, a: Account) -> bool
-    requires { ⌜ real d ≡ true ⌝ }
-    ensures { λ r. ⌜ r ≡ complete d a ⌝ }
+// Whether an account has all that its closing asks for, on a day that ends a month or not and reads the meters or not.
+fn ready(ends: bool, reads: bool, a: Account) -> bool
+    ensures { λ r. ⌜ r ≡ ready ends reads a ⌝ }
 {
-    let marks = a.marks;
-    let measured = !d.on_measurement_day() | marks.measured;
-    let metered = !d.last_of_month() | marks.metered;
-    !a.opened | (marks.delivered & measured & metered)
+    let month = a.month;
+    let measured = !reads | month.measured;
+    let metered = !ends | month.metered;
+    !a.opened | (a.today.delivered & measured & metered)
 }
 
-// All accounts at a closing: whether none lacks a posting, and whether every number stays in its range.
+// All accounts at a closing, and whether every number stays in its range.
 struct Closings {
     ledger: Ledger,
     reports: [Report; 16],
-    complete: bool,
     fits: bool,
 }
 
@@ -280,7 +270,6 @@ struct Closings {
 fn close_all(l: Ledger, e: Entry) -> Closings
     requires { ⌜ (admission l e ≡ 0) × (CLOSE-DAY ≤ e .kind) ⌝ }
     ensures closed { λ r. ⌜ (r .ledger ≡ closed l e .ledger) × (r .reports ≡ closed l e .answer .reports) ⌝ }
-    ensures complete { λ r. ⌜ r .complete ≡ everyAccount (complete (e .date)) (l .accounts) ⌝ }
     ensures fits { λ r. ⌜ r .fits ≡ everyAccount (staysInRange (l .terms) e) (l .accounts) ⌝ }
 {
     let date = e.date;
@@ -288,7 +277,6 @@ fn close_all(l: Ledger, e: Entry) -> Closings
     let mut next = l;
     let quiet = quiet();
     let mut reports = [quiet; 16];
-    let mut all = true;
     let mut fits = true;
     for i in 0..16 {
         let a = l.accounts[i];
@@ -297,11 +285,9 @@ fn close_all(l: Ledger, e: Entry) -> Closings
             let day = one.day;
             let account = one.account;
             let report = one.report;
-            let ready = complete(date, a);
             let fit = account_in_range(day) & account_in_range(account);
             next.accounts[i] = account;
             reports[i] = report;
-            all = all & ready;
             fits = fits & fit;
         }
     }
@@ -311,24 +297,33 @@ fn close_all(l: Ledger, e: Entry) -> Closings
     Closings {
         ledger: next,
         reports,
-        complete: all,
         fits,
     }
 }
 
+// What every account must have is asked before any is closed.
 pub fn post_closing(l: Ledger, e: Entry) -> Posted
     requires { ⌜ (admission l e ≡ 0) × (CLOSE-DAY ≤ e .kind) ⌝ }
     ensures { λ r. ⌜ r ≡ postClosing l e ⌝ }
 {
-    let all = close_all(l, e);
-    if !all.complete {
+    let date = e.date;
+    let ends = date.last_of_month();
+    let reads = date.on_measurement_day();
+    let mut all = true;
+    for i in 0..16 {
+        let a = l.accounts[i];
+        let one = ready(ends, reads, a);
+        all = all & one;
+    }
+    if !all {
         return refused(l, 27);
     }
-    if !all.fits {
+    let closed = close_all(l, e);
+    if !closed.fits {
         return refused(l, 29);
     }
-    let reports = all.reports;
-    let next = all.ledger;
+    let reports = closed.reports;
+    let next = closed.ledger;
     let answer = Answer { number: 0, reports };
     Posted {
         answer,

@@ -13,6 +13,7 @@ use crate::checks::refuse;
 use crate::entries::Entry;
 use crate::ranges::account_in_range;
 use crate::state::Account;
+use crate::state::Today;
 use tariff::amounts::Quantity;
 use tariff::amounts::Units;
 use tariff::delivery::breaks_v1;
@@ -32,22 +33,25 @@ fn delivered(m: Month, a: Account, amount: Units, back_cast: Quantity) -> Accoun
     let mddq = capacity.mddq;
     let bcq = capacity.bcq;
     let mut month = a.month;
-    let net = month.net;
-    let mut marks = a.marks;
+    let mut totals = month.totals;
+    let net = totals.net;
     let banked = bank.plus(amount);
     let moved = net.plus(amount);
     // The share looks at the bank before the delivery.
     let share = share_of(bank, bcq, back_cast, mdq);
     let v1 = breaks_v1(m, bcq, amount);
     let v2 = breaks_v2(share, mddq, amount);
-    month.net = moved;
-    marks.delivered = true;
-    marks.v1 = v1;
-    marks.v2 = v2;
+    totals.net = moved;
+    month.totals = totals;
+    let today = Today {
+        delivered: true,
+        v1,
+        v2,
+    };
     let mut next = a;
     next.bank = banked;
     next.month = month;
-    next.marks = marks;
+    next.today = today;
     next
 }
 
@@ -64,7 +68,7 @@ pub fn delivery(t: Terms, a: Account, e: Entry) -> Change
     let n = refuse(
         24,
         !a.opened,
-        refuse(26, a.marks.delivered, refuse(29, out, 0)),
+        refuse(26, a.today.delivered, refuse(29, out, 0)),
     );
     Change {
         number: n,

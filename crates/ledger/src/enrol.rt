@@ -12,10 +12,8 @@ use crate::checks::refuse;
 use crate::entries::Entry;
 use crate::ranges::account_in_range;
 use crate::state::Account;
-use crate::state::no_marks;
-use crate::state::no_totals;
+use crate::state::nobody;
 use tariff::amounts::Dth;
-use tariff::amounts::Mills;
 use tariff::amounts::Quantity;
 use tariff::amounts::Units;
 use tariff::enrol::opening_too_high;
@@ -30,21 +28,14 @@ fn new_account(t: Terms, mdq: Dth, opening: Quantity) -> Account
 {
     let step = Step::first(mdq);
     let capacity = t.capacity(step.k);
-    let month = no_totals();
-    let marks = no_marks();
     let bank = Units::of(opening);
-    Account {
-        opened: true,
-        bank,
-        mdq,
-        step,
-        capacity,
-        month,
-        carry: Quantity(0),
-        owed: Mills(0),
-        violation_days: 0,
-        marks,
-    }
+    let mut next = nobody();
+    next.opened = true;
+    next.bank = bank;
+    next.mdq = mdq;
+    next.step = step;
+    next.capacity = capacity;
+    next
 }
 
 pub fn enrolment(t: Terms, a: Account, e: Entry) -> Change

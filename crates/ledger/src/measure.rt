@@ -18,13 +18,13 @@ fn remeasured(a: Account, mdq: Dth) -> Account
     ensures { λ r. ⌜ r ≡ remeasured a mdq ⌝ }
 {
     let step = a.step;
-    let mut marks = a.marks;
+    let mut month = a.month;
     let measured = step.measured(mdq);
-    marks.measured = true;
+    month.measured = true;
     let mut next = a;
     next.mdq = mdq;
     next.step = measured;
-    next.marks = marks;
+    next.month = month;
     next
 }
 
@@ -37,7 +37,7 @@ pub fn measurement(a: Account, e: Entry) -> Change
     let n = refuse(
         24,
         !a.opened,
-        refuse(26, a.marks.measured, refuse(29, out, 0)),
+        refuse(26, a.month.measured, refuse(29, out, 0)),
     );
     Change {
         number: n,

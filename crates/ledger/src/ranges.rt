@@ -29,7 +29,7 @@ fn step_in_range(opened: bool, s: Step) -> bool
 pub fn account_in_range(a: Account) -> bool
     ensures { λ r. ⌜ r ≡ accountInRange a ⌝ }
 {
-    let month = a.month;
+    let month = a.month.totals;
     let step = a.step;
     let bank = a.bank.within(1000000000, 100000000000);
     let totals = totals_in_range(month);

@@ -1,7 +1,7 @@
 // The state that postings change.
 ghost use mathlib.Core.Path.{_≡_};
 ghost use Prim.Native.Nat.{_<_};
-ghost use Rattle.ledger.specs.State.{noTotals, noMarks, nobody, withAccount};
+ghost use Rattle.ledger.specs.State.{noTotals, noMonth, noToday, nobody, withAccount};
 use tariff::amounts::Dth;
 use tariff::amounts::Mcf;
 use tariff::amounts::Mills;
@@ -13,31 +13,39 @@ use tariff::steps::Step;
 use tariff::terms::Capacity;
 use tariff::terms::Terms;
 
+// What every closing clears.
 #[repr(C)]
-pub struct Marks {
-    // DELIVER was accepted today, MEASURE and USAGE this month.
+pub struct Today {
+    // DELIVER was accepted.
     pub delivered: bool,
-    pub measured: bool,
-    pub metered: bool,
-    // What today's delivery broke.
+    // What that delivery broke.
     pub v1: bool,
     pub v2: bool,
-    // A fall of the step excuses a bank above its limit until it fits again.
-    pub excused: bool,
+}
+
+// What CLOSE MONTH clears.
+#[repr(C)]
+pub struct ThisMonth {
+    pub totals: Totals,
+    // MEASURE and USAGE were accepted.
+    pub measured: bool,
+    pub metered: bool,
 }
 
 #[repr(C)]
 pub struct Account {
     pub opened: bool,
+    // A fall of the step excuses a bank above its limit until it fits again.
+    pub excused: bool,
+    pub today: Today,
     pub bank: Units,
     pub mdq: Dth,
     pub step: Step,
     pub capacity: Capacity,
-    pub month: Totals,
+    pub month: ThisMonth,
     pub carry: Quantity,
     pub owed: Mills,
     pub violation_days: u64,
-    pub marks: Marks,
 }
 
 #[repr(C)]
@@ -50,7 +58,7 @@ pub struct Ledger {
     pub accounts: [Account; 16],
 }
 
-pub fn no_totals() -> Totals
+fn no_totals() -> Totals
     ensures { λ r. ⌜ r ≡ noTotals ⌝ }
 {
     Totals {
@@ -63,24 +71,32 @@ pub fn no_totals() -> Totals
     }
 }
 
-pub fn no_marks() -> Marks
-    ensures { λ r. ⌜ r ≡ noMarks ⌝ }
+pub fn no_month() -> ThisMonth
+    ensures { λ r. ⌜ r ≡ noMonth ⌝ }
 {
-    Marks {
-        delivered: false,
+    let totals = no_totals();
+    ThisMonth {
+        totals,
         measured: false,
         metered: false,
+    }
+}
+
+pub fn no_today() -> Today
+    ensures { λ r. ⌜ r ≡ noToday ⌝ }
+{
+    Today {
+        delivered: false,
         v1: false,
         v2: false,
-        excused: false,
     }
 }
 
 pub fn nobody() -> Account
     ensures { λ r. ⌜ r ≡ nobody ⌝ }
 {
-    let month = no_totals();
-    let marks = no_marks();
+    let month = no_month();
+    let today = no_today();
     let step = Step {
         k: 0,
         pending: 0,
@@ -93,6 +109,8 @@ pub fn nobody() -> Account
     };
     Account {
         opened: false,
+        excused: false,
+        today,
         bank: Units(0),
         mdq: Dth(0),
         step,
@@ -101,7 +119,6 @@ pub fn nobody() -> Account
         carry: Quantity(0),
         owed: Mills(0),
         violation_days: 0,
-        marks,
     }
 }
 

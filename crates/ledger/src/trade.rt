@@ -19,15 +19,18 @@ fn booked(sells: bool, a: Account, q: Quantity) -> Account
     ensures { λ r. ⌜ r ≡ booked sells a q ⌝ }
 {
     let mut month = a.month;
+    let mut totals = month.totals;
     let mut next = a;
     if sells {
-        let sales = month.sales.plus(q);
-        month.sales = sales;
+        let sales = totals.sales.plus(q);
+        totals.sales = sales;
+        month.totals = totals;
         next.month = month;
         return next;
     }
-    let purchases = month.purchases.plus(q);
-    month.purchases = purchases;
+    let purchases = totals.purchases.plus(q);
+    totals.purchases = purchases;
+    month.totals = totals;
     next.month = month;
     next
 }

@@ -12,12 +12,12 @@ fn metered(a: Account, usage: Mcf) -> Account
     ensures { λ r. ⌜ r ≡ metered a usage ⌝ }
 {
     let mut month = a.month;
-    let mut marks = a.marks;
-    month.usage = usage;
-    marks.metered = true;
+    let mut totals = month.totals;
+    totals.usage = usage;
+    month.totals = totals;
+    month.metered = true;
     let mut next = a;
     next.month = month;
-    next.marks = marks;
     next
 }
 
@@ -29,7 +29,7 @@ pub fn usage(a: Account, e: Entry) -> Change
     let n = refuse(
         24,
         !a.opened,
-        refuse(26, a.marks.metered, refuse(29, out, 0)),
+        refuse(26, a.month.metered, refuse(29, out, 0)),
     );
     Change {
         number: n,

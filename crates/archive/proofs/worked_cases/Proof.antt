@@ -16,7 +16,7 @@ use Rattle.ledger.specs.Checks.{verdict}
 use Rattle.ledger.specs.Kinds.{lookup, kindOf}
 use Rattle.ledger.specs.Entries as entries
 use Rattle.ledger.specs.Entries.{byteAt, entryOf, termsOf, pricesOf, processOnly, wishes, accountTooHigh, unusedSet, wordsInRange, wrongTransfer, fieldChecks, entryChecks, entryNumber, formNumber}
-use Rattle.ledger.specs.State.{noTotals, noMarks, nobody, fresh, accountAt, withAccount}
+use Rattle.ledger.specs.State.{noTotals, noMonth, noToday, nobody, fresh, accountAt, asOpen, withBank, withMeasure, withCapacity, withAccount}
 use Rattle.ledger.specs.Ranges.{totalsInRange, stepInRange, accountInRange, everyAccount, inRange}
 use Rattle.ledger.specs.Answers.{quiet, plain, refused, settle}
 use Rattle.ledger.specs.Terms.{reworked, termsNext, termsChecks, postTerms}
@@ -68,7 +68,7 @@ too-many n room h =
     rw (whole, entries-closings n, right-closings n 0, sections-closings n, length-replicate n (closeMonth 0 0 0 0), lt-ltb 1200 n h)
 
 worked : WorkedCases
-unfolding within amountOf withinMills above percent sameMonth april divides leap lengths monthLength real sameDate isOn firstOfGasYear termsInRange mddqOf bcqOf capacityOf staysOnFbs openingTooHigh stepOf firstStep pricesInRange verdict entries.wordAt byteAt entryOf lookup kindOf termsOf pricesOf processOnly wishes accountTooHigh unusedSet wordsInRange wrongTransfer fieldChecks entryChecks entryNumber formNumber noTotals noMarks nobody fresh accountAt withAccount totalsInRange stepInRange accountInRange everyAccount inRange quiet plain refused settle reworked termsNext termsChecks postTerms newAccount enrolled enrolChecks enrolment standingChecks wrongDay admission postSeveral changeOf stored postKind postEntry posted openBank openBanks panelOf valueOf bytesOf halfAt wordAt firstEntries entriesOf closesMonth finding firstRefusal joined sectionsOf together header directory bodyAt packed archiveOf listChecked tooLarge unwritten written outputAfter sectionCount rightOpening wrongHeader pairAt pairsFrom pairsOf rightLength rightPairs rightDirectory partAt partsOf misplaced numberIn numbersIn numbersOf checked nowhere placeOf sectionAt listOf listIn entriesIn countOf asAccepted asRefused replayed figuresOf
+unfolding within amountOf withinMills above percent sameMonth april divides leap lengths monthLength real sameDate isOn firstOfGasYear termsInRange mddqOf bcqOf capacityOf staysOnFbs openingTooHigh stepOf firstStep pricesInRange verdict entries.wordAt byteAt entryOf lookup kindOf termsOf pricesOf processOnly wishes accountTooHigh unusedSet wordsInRange wrongTransfer fieldChecks entryChecks entryNumber formNumber noTotals noMonth noToday nobody fresh accountAt asOpen withBank withMeasure withCapacity withAccount totalsInRange stepInRange accountInRange everyAccount inRange quiet plain refused settle reworked termsNext termsChecks postTerms newAccount enrolled enrolChecks enrolment standingChecks wrongDay admission postSeveral changeOf stored postKind postEntry posted openBank openBanks panelOf valueOf bytesOf halfAt wordAt firstEntries entriesOf closesMonth finding firstRefusal joined sectionsOf together header directory bodyAt packed archiveOf listChecked tooLarge unwritten written outputAfter sectionCount rightOpening wrongHeader pairAt pairsFrom pairsOf rightLength rightPairs rightDirectory partAt partsOf misplaced numberIn numbersIn numbersOf checked nowhere placeOf sectionAt listOf listIn entriesIn countOf asAccepted asRefused replayed figuresOf
 worked =
     record {
       answer = refl;

@@ -11,9 +11,9 @@ use Rattle.ledger.proofs.Bounded.{account-ranged, begun-ranged}
 use Rattle.ledger.proofs.Lists.{every-end, every-next, every-pass, filled, filled-end, filled-kept, filled-next, length-mapped, withAccounts}
 use Rattle.ledger.proofs.RightEntries.{prices-fit}
 use Rattle.ledger.specs.Answers.{quiet}
-use Rattle.ledger.specs.Closing.{accountClosed, closed, closedAccount, complete, notOpen, reportOf, staysInRange}
+use Rattle.ledger.specs.Closing.{accountClosed, closed, closedAccount, notOpen, reportOf, staysInRange}
 use Rattle.ledger.specs.Ranges.{accountInRange, everyAccount}
-use Rattle.ledger.specs.State.{accountAt, noMarks, noTotals, nobody}
+use Rattle.ledger.specs.State.{accountAt, noMonth, noToday, noTotals, nobody}
 use Rattle.tariff.specs.Dates.{real}
 use Rattle.tariff.specs.Terms.{termsInRange}
 use mathlib.Core.List.{List}
@@ -38,15 +38,14 @@ abbrev Agrees : Ledger → ℕ → (Account → Bool) → Bool → Type 0
 Agrees l i p so-far = so-far && everyAccount p (drop i (l .accounts)) ≡ everyAccount p (l .accounts)
 
 abbrev Inv-loop : tie.InvT-loop
-Inv-loop e l date terms next₀ reports₀ all₀ fits₀ i₀ next reports all fits i =
+Inv-loop e l date terms next₀ reports₀ fits₀ i₀ next reports fits i =
     (i ≤ 16)
     × (next ≡ accountsTo l e i)
     × (reports ≡ reportsTo l e i)
-    × Agrees l i (complete (e .date)) all
     × Agrees l i (staysInRange (l .terms) e) fits
 
 abbrev μ-loop : tie.MeasureT-loop
-μ-loop e l date terms next₀ reports₀ all₀ fits₀ i₀ next reports all fits i = 16 - i
+μ-loop e l date terms next₀ reports₀ fits₀ i₀ next reports fits i = 16 - i
 
 -- ---- one account further
 
@@ -65,10 +64,6 @@ module _ (l : Ledger) (e : Entry) (i : ℕ) (n : length (l .accounts) ≡ 16) (h
   unfolding accountAt staysInRange
   open-stays fits day end r one q v x y p = cc (every-next (staysInRange (l .terms) e) (l .accounts) i nobody fits (omega arith))
 
-  open-complete : (all ready r : Bool) → r ≡ all && ready → Agrees l i (complete (e .date)) all → ready ≡ complete (e .date) (accountAt l i) → Agrees l (i + 1) (complete (e .date)) r
-  unfolding accountAt
-  open-complete all ready r q v x = cc (every-next (complete (e .date)) (l .accounts) i nobody all (omega arith))
-
   -- one that is not open stays as it is, and has nothing to report
   module _ (o : accountAt l i .opened ≡ false) where
     shut : closedAccount (l .terms) e (accountAt l i) ≡ notOpen (accountAt l i)
@@ -86,10 +81,6 @@ module _ (l : Ledger) (e : Entry) (i : ℕ) (n : length (l .accounts) ≡ 16) (h
         q
         ∙ v
         ∙ filled-kept (reportOf (l .terms) e) (l .accounts) (replicate 16 quiet) i nobody quiet (omega arith) (omega arith) (ap (λ (c : Closed). c .report) shut ∙ sym (getD-replicate 16 i quiet quiet h))
-
-    shut-complete : (all r : Bool) → Agrees l i (complete (e .date)) all → r ≡ all → Agrees l (i + 1) (complete (e .date)) r
-    unfolding accountAt complete
-    shut-complete all r v q = cc (every-pass (complete (e .date)) (l .accounts) i nobody all (omega arith) (rw o))
 
     shut-stays : (fits r : Bool) → accountInRange (accountAt l i) ≡ true → Agrees l i (staysInRange (l .terms) e) fits → r ≡ fits → Agrees l (i + 1) (staysInRange (l .terms) e) r
     unfolding accountAt staysInRange notOpen
@@ -114,17 +105,17 @@ module _ (s : tie.Start Inv-loop μ-loop) where
   ranged i h = account-ranged (s .args .t1) i sixteen h (is-ranged (s .args .t1) (s .args .e) (s .pre .0))
 
 loop-holds : tie.Need-loop-holds Inv-loop μ-loop
-loop-holds c = (search needs, refl, rw (c .quiet .ensures), refl, refl)
+loop-holds c = (search needs, refl, rw (c .quiet .ensures), refl)
 
 close-account-requires : tie.Need-close-account-requires Inv-loop μ-loop
-unfolding nobody noTotals noMarks accountAt
+unfolding nobody noTotals noMonth noToday accountAt
 close-account-requires c κs =
     let s : tie.Start Inv-loop μ-loop = search in
     let v : tie.At-loop Inv-loop μ-loop = search in
     ((real-date s, ranged s (v .loop .i) (omega arith), in-force s, prices-fit (s .args .e) (is-right (s .args .t1) (s .args .e) (s .pre .0))), c .if1 .taken)
 
 loop-again : tie.Need-loop-again Inv-loop μ-loop
-unfolding nobody noTotals noMarks accountAt
+unfolding nobody noTotals noMonth noToday accountAt
 loop-again c =
     let s : tie.Start Inv-loop μ-loop = search in
     let v : tie.At-loop Inv-loop μ-loop = search in
@@ -133,8 +124,8 @@ loop-again c =
     let f = ranged s (v .loop .i) h in
     let further : v .loop .i + 1 ≤ 16 = omega arith in
     ⊎-elim
-    (λ w. (further, search open-stored, search open-reported, search open-complete, search open-stays))
-    (λ w. (further, search shut-stored, search shut-reported, search shut-complete, search shut-stays))
+    (λ w. (further, search open-stored, search open-reported, search open-stays))
+    (λ w. (further, search shut-stored, search shut-reported, search shut-stays))
     (c .if1 .came)
 
 returns : tie.Need-returns Inv-loop μ-loop
@@ -150,14 +141,8 @@ returns c =
         rw (v .loop .inv .1, c .day-after .ensures, filled-end (accountClosed (l .terms) e) (l .accounts) (l .accounts) i (omega (arith, n)) (omega (arith, n))),
         v .loop .inv .2 ∙ filled-end (reportOf (l .terms) e) (l .accounts) (replicate 16 quiet) i (omega (arith, n)) (omega arith),
       ),
-      (
-        sym (every-end (complete (e .date)) (l .accounts) i (v .loop .all) (omega (arith, n))) ∙ v .loop .inv .3,
-        sym (every-end (staysInRange (l .terms) e) (l .accounts) i (v .loop .fits) (omega (arith, n))) ∙ v .loop .inv .4,
-      ),
+      sym (every-end (staysInRange (l .terms) e) (l .accounts) i (v .loop .fits) (omega (arith, n))) ∙ v .loop .inv .3,
     )
-
-complete-requires : tie.Need-complete-requires Inv-loop μ-loop
-complete-requires c κs = real-date (search)
 
 day-after-requires : tie.Need-day-after-requires Inv-loop μ-loop
 day-after-requires c κs = real-date (search)
@@ -189,4 +174,4 @@ loop-less c = search needs
 pub close-all-spec : {M : Type 1} → statement M
 close-all-spec {M = M} =
     tie.close
-    (search (needs, tie.spec {M = M} Inv-loop μ-loop, loop-holds, mul-a, element-copy-out-a, close-account-requires, complete-requires, mul-account, element-set-from-account, mul-reports, array-set-from-reports, add-i, loop-less, loop-again, day-after-requires, returns))
+    (search (needs, tie.spec {M = M} Inv-loop μ-loop, loop-holds, mul-a, element-copy-out-a, close-account-requires, mul-account, element-set-from-account, mul-reports, array-set-from-reports, add-i, loop-less, loop-again, day-after-requires, returns))

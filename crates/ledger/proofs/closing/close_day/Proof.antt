@@ -1,8 +1,12 @@
 -- The three parts of a day's closing stand in the order of the rules: violations, then cash, then the account after both.
 use borrow.Author.Needs.{needs}
+use Rattle.ledger.proofs.Bounded.{Bounded, bounded}
 use Rattle.ledger.specs.Closing.{closedDay, dayClosed}
 use Rattle.ledger.proofs.closing.close_day.Statement.{statement}
 use Rattle.ledger.proofs.closing.close_day.Tie as tie
+
+known : (s : tie.Start) → Bounded (s .args .a)
+known s = bounded (s .args .a) (s .pre .1)
 
 returns : tie.Need-returns
 unfolding closedDay dayClosed
@@ -13,4 +17,4 @@ returns c = rw (
 )
 
 pub close-day-spec : {M : Type 1} → statement M
-close-day-spec = tie.close (tie.spec (λ c κs. search needs) (λ c κs. search needs) (λ c κs. search needs) returns)
+close-day-spec = tie.close (tie.spec (λ c κs. known (search) .bcq) (λ c κs. search needs) (λ c κs. search needs) (λ c κs. search needs) returns)

@@ -17,16 +17,13 @@ known : (s : tie.Start) → Bounded (s .args .a)
 known s = bounded (s .args .a) (s .pre .1)
 
 masked : (d : Date) (a : Account) (limit : Quantity) (v3 v4 v5 v6 v7 v8 : Bool) (mask : ℕ)
-    → mask ≡ maskOf (a .marks .v1) (a .marks .v2) v3 v4 v5 v6 v7 v8
-    → v3 ≡ breaksV3 (d .month) (a .capacity .bcq) (a .month .net) → v4 ≡ breaksV4 (d .month) limit (a .month .net) → limit ≡ limitOf d a
-    → v5 ≡ breaksV5 d (a .capacity .bcq) (a .month .net) → v6 ≡ breaksV6 d (a .capacity .bcq) (a .bank)
-    → v7 ≡ breaksV7 (a .bank) → v8 ≡ breaksV8 (a .marks .excused) (a .capacity .bcq) (a .bank)
+    → mask ≡ maskOf (a .today .v1) (a .today .v2) v3 v4 v5 v6 v7 v8
+    → v3 ≡ breaksV3 (d .month) (a .capacity .bcq) (a .month .totals .net) → v4 ≡ breaksV4 (d .month) limit (a .month .totals .net) → limit ≡ limitOf d a
+    → v5 ≡ breaksV5 d (a .capacity .bcq) (a .month .totals .net) → v6 ≡ breaksV6 d (a .capacity .bcq) (a .bank)
+    → v7 ≡ breaksV7 (a .bank) → v8 ≡ breaksV8 (a .excused) (a .capacity .bcq) (a .bank)
     → mask ≡ violationsOf d a
 unfolding violationsOf
 masked d a limit v3 v4 v5 v6 v7 v8 mask m p3 p4 l p5 p6 p7 p8 = cc
-
-limit-requires : tie.Need-limit-requires
-limit-requires c κs = known (search) .bcq
 
 breaks-v3-requires : tie.Need-breaks-v3-requires
 breaks-v3-requires c κs = known (search) .bcq
@@ -47,4 +44,4 @@ returns : tie.Need-returns
 returns c = search masked
 
 pub violations-spec : {M : Type 1} → statement M
-violations-spec = tie.close (search (needs, tie.spec, limit-requires, breaks-v3-requires, breaks-v4-requires, breaks-v5-requires, breaks-v6-requires, breaks-v8-requires, returns))
+violations-spec = tie.close (search (needs, tie.spec, breaks-v3-requires, breaks-v4-requires, breaks-v5-requires, breaks-v6-requires, breaks-v8-requires, returns))

@@ -1,8 +1,8 @@
 -- The account is in range and the amount is small, so what is asked of either may be asked, and no sum leaves its type.
 use native.Mathlib.Omega.{arith}
 use Rattle.ledger.proofs.Bounded.{Bounded, bounded}
-use Rattle.ledger.specs.Deliver.{delivered, deliveryMarks, withNet}
-use Rattle.ledger.specs.State.{withBank, withMarks, withMonth}
+use Rattle.ledger.specs.Deliver.{delivered, deliveredToday, withNet}
+use Rattle.ledger.specs.State.{withBank, withMonth, withToday, withTotals}
 use Rattle.ledger.proofs.deliver.delivered.Statement.{statement}
 use Rattle.ledger.proofs.deliver.delivered.Tie as tie
 
@@ -10,7 +10,7 @@ known : (s : tie.Start) → Bounded (s .args .a)
 known s = bounded (s .args .a) (s .pre .0)
 
 returns : tie.Need-returns
-unfolding delivered deliveryMarks withBank withMonth withMarks withNet
+unfolding delivered deliveredToday withBank withMonth withTotals withToday withNet
 returns c = rw (
   (let at : tie.After-plus2 = search in at .plus2 .ensures .0),
   (let at : tie.After-plus = search in at .plus .ensures .0),

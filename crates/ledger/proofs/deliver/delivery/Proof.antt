@@ -17,7 +17,7 @@ use Rattle.ledger.proofs.deliver.delivery.Statement.{statement}
 use Rattle.ledger.proofs.deliver.delivery.Tie as tie
 
 judged : (t : Terms) (a b : Account) (e : Entry) (amount : Units) (fits : Bool) (n₁ n₂ n₃ : ℕ)
-    → n₃ ≡ cond (not (a .opened)) 24 n₂ → n₂ ≡ cond (a .marks .delivered) 26 n₁ → n₁ ≡ cond (not fits) 29 0 → fits ≡ accountInRange b
+    → n₃ ≡ cond (not (a .opened)) 24 n₂ → n₂ ≡ cond (a .today .delivered) 26 n₁ → n₁ ≡ cond (not fits) 29 0 → fits ≡ accountInRange b
     → b ≡ delivered (e .date .month) a amount (record { 0 = e .w2 })
     → amount ≡ retained (t .retainage) (record { 0 = e .w1 }) (record { 0 = e .w2 })
     → record { number = n₃; account = b } ≡ delivery t a e

@@ -14,7 +14,7 @@ use Rattle.ledger.proofs.measure.measurement.Statement.{statement}
 use Rattle.ledger.proofs.measure.measurement.Tie as tie
 
 judged : (a b : Account) (e : Entry) (fits : Bool) (n₁ n₂ n₃ : ℕ)
-    → n₃ ≡ cond (not (a .opened)) 24 n₂ → n₂ ≡ cond (a .marks .measured) 26 n₁ → n₁ ≡ cond (not fits) 29 0
+    → n₃ ≡ cond (not (a .opened)) 24 n₂ → n₂ ≡ cond (a .month .measured) 26 n₁ → n₁ ≡ cond (not fits) 29 0
     → fits ≡ accountInRange b → b ≡ remeasured a (record { 0 = e .w1 })
     → record { number = n₃; account = b } ≡ measurement a e
 unfolding measurement measureChecks afterMeasure verdict

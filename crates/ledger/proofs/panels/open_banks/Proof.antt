@@ -8,7 +8,7 @@ use Rattle.ledger.proofs.Banks.{banks-end, banks-next}
 use Rattle.ledger.proofs.Bounded.{account-ranged, bounded}
 use Rattle.ledger.proofs.Lists.{length-mapped}
 use Rattle.ledger.specs.Panel.{openBanks}
-use Rattle.ledger.specs.State.{accountAt, noMarks, noTotals, nobody}
+use Rattle.ledger.specs.State.{accountAt, noMonth, noToday, noTotals, nobody}
 use Rattle.tariff.proofs.Laws.{nothing-value, sum-value}
 use Rattle.tariff.proofs.Sizes.{size-nothing}
 use Rattle.tariff.specs.Amounts.{size}
@@ -29,7 +29,7 @@ sixteen : (s : tie.Start Inv-loop μ-loop) → length (s .args .t1 .accounts) �
 sixteen s = search (needs, length-mapped)
 
 one-bank : (c : tie.After-open-bank Inv-loop μ-loop) → size (c .open-bank .result) ≤ 100000000000
-unfolding nobody noTotals noMarks accountAt
+unfolding nobody noTotals noMonth noToday accountAt
 one-bank c =
     let s : tie.Start Inv-loop μ-loop = search in
     let v : tie.At-loop Inv-loop μ-loop = search in
@@ -41,7 +41,7 @@ loop-holds c =
     (search needs, rw (c .nothing .ensures, nothing-value) (+ℤ-idl (openBanks (s .args .t1 .accounts))), rw (c .nothing .ensures) (omega (arith, size-nothing)))
 
 loop-again : tie.Need-loop-again Inv-loop μ-loop
-unfolding nobody noTotals noMarks
+unfolding nobody noTotals noMonth noToday
 loop-again c =
     let s : tie.Start Inv-loop μ-loop = search in
     let v : tie.At-loop Inv-loop μ-loop = search in

@@ -7,7 +7,7 @@ use Prim.Native.Nat.{_-_, _≤_}
 use lib.ListN.{drop, length}
 use Rattle.ledger.proofs.Lists.{every-end, every-next, length-mapped}
 use Rattle.ledger.specs.Ranges.{accountInRange, everyAccount, inRange}
-use Rattle.ledger.specs.State.{noMarks, noTotals, nobody}
+use Rattle.ledger.specs.State.{noMonth, noToday, noTotals, nobody}
 use Rattle.ledger.proofs.ranges.in_range.Statement.{statement}
 use Rattle.ledger.proofs.ranges.in_range.Tie as tie
 
@@ -25,7 +25,7 @@ unfolding inRange
 loop-holds c = (search needs, rw ((let at : tie.After-in-range Inv-loop μ-loop = search in at .in-range .ensures), (let at : tie.After-real Inv-loop μ-loop = search in at .real .ensures)))
 
 loop-again : tie.Need-loop-again Inv-loop μ-loop
-unfolding nobody noTotals noMarks
+unfolding nobody noTotals noMonth noToday
 loop-again c =
     let s : tie.Start Inv-loop μ-loop = search in
     let v : tie.At-loop Inv-loop μ-loop = search in (

@@ -8,7 +8,7 @@ use Rattle.ledger.proofs.Admitted.{is-ranged, is-right}
 use Rattle.ledger.proofs.Bounded.{account-ranged}
 use Rattle.ledger.proofs.RightEntries.{terms-fit}
 use Rattle.ledger.proofs.Lists.{filled, filled-end, filled-next, length-mapped, withAccounts}
-use Rattle.ledger.specs.State.{accountAt, noMarks, noTotals, nobody}
+use Rattle.ledger.specs.State.{accountAt, noMonth, noToday, noTotals, nobody}
 use Rattle.ledger.specs.Terms.{reworked, termsNext}
 use Rattle.ledger.proofs.terms.terms_next.Statement.{statement}
 use Rattle.ledger.proofs.terms.terms_next.Tie as tie
@@ -26,7 +26,7 @@ loop-holds : tie.Need-loop-holds Inv-loop μ-loop
 loop-holds c = (search needs, refl)
 
 reworked-requires : tie.Need-reworked-requires Inv-loop μ-loop
-unfolding nobody noTotals noMarks accountAt
+unfolding nobody noTotals noMonth noToday accountAt
 reworked-requires c κs =
     let s : tie.Start Inv-loop μ-loop = search in
     let v : tie.At-loop Inv-loop μ-loop = search in
@@ -36,7 +36,7 @@ reworked-requires c κs =
     )
 
 loop-again : tie.Need-loop-again Inv-loop μ-loop
-unfolding nobody noTotals noMarks
+unfolding nobody noTotals noMonth noToday
 loop-again c =
     let s : tie.Start Inv-loop μ-loop = search in
     let v : tie.At-loop Inv-loop μ-loop = search in

@@ -7,7 +7,7 @@ use Rattle.tariff.specs.Amounts.{size}
 use Rattle.ledger.proofs.Bounded.{Bounded, bounded}
 use Rattle.ledger.specs.Entries.{companySells}
 use Rattle.ledger.specs.Gas.{giving, taking}
-use Rattle.ledger.specs.State.{withMonth}
+use Rattle.ledger.specs.State.{withMonth, withTotals}
 use Rattle.ledger.specs.Trade.{booked, traded}
 use Rattle.ledger.specs.declared.answers.Change.{Change}
 use Rattle.ledger.specs.declared.entries.Entry.{Entry}
@@ -26,7 +26,7 @@ module _ (a b : Account) (e : Entry) (sells : Bool) (c : Change) (is : sells ≡
 
 -- what giving and taking ask
 asked : (c : tie.After-booked) → (size (c .booked .result .bank) ≤ 100000000000) × (c .booked .result .capacity .bcq .0 ≤ 30000000)
-unfolding booked withMonth
+unfolding booked withMonth withTotals
 asked c =
     let s : tie.Start = search in
     let known = bounded (s .args .a) (s .pre .0) in

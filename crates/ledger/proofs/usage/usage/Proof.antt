@@ -12,7 +12,7 @@ use Rattle.ledger.proofs.usage.usage.Statement.{statement}
 use Rattle.ledger.proofs.usage.usage.Tie as tie
 
 judged : (a b : Account) (e : Entry) (fits : Bool) (n₁ n₂ n₃ : ℕ)
-    → n₃ ≡ cond (not (a .opened)) 24 n₂ → n₂ ≡ cond (a .marks .metered) 26 n₁ → n₁ ≡ cond (not fits) 29 0
+    → n₃ ≡ cond (not (a .opened)) 24 n₂ → n₂ ≡ cond (a .month .metered) 26 n₁ → n₁ ≡ cond (not fits) 29 0
     → fits ≡ accountInRange b → b ≡ metered a (record { 0 = e .w1 })
     → record { number = n₃; account = b } ≡ usage a e
 unfolding usage usageChecks afterUsage verdict
