@@ -94,7 +94,7 @@ typedef struct {
     uint64_t bcq;                   /* Dth */
 } nedrulov_capacity;
 
-/* the month so far */
+/* what an account moved and used since the month began */
 typedef struct {
     int64_t net;                    /* units, deliveries alone */
     uint64_t sales;                 /* units that the company sold to the account */
@@ -104,26 +104,32 @@ typedef struct {
     uint64_t usage;                 /* Mcf */
 } nedrulov_totals;
 
+/* the day so far: every closing clears it */
 typedef struct {
-    bool delivered;                 /* DELIVER accepted today */
-    bool measured;                  /* MEASURE accepted this month */
-    bool metered;                   /* USAGE accepted this month */
-    bool v1;                        /* what today's delivery broke */
+    bool delivered;                 /* DELIVER accepted */
+    bool v1;                        /* what that delivery broke */
     bool v2;
-    bool excused;                   /* a fall of the step excuses a bank above its limit */
-} nedrulov_marks;
+} nedrulov_today;
+
+/* the month so far: CLOSE MONTH clears it */
+typedef struct {
+    nedrulov_totals totals;
+    bool measured;                  /* MEASURE accepted */
+    bool metered;                   /* USAGE accepted */
+} nedrulov_this_month;
 
 typedef struct {
     bool opened;
+    bool excused;                   /* a fall of the step excuses a bank above its limit */
+    nedrulov_today today;
     int64_t bank;                   /* units */
     uint64_t mdq;                   /* Dth */
     nedrulov_step step;
     nedrulov_capacity capacity;
-    nedrulov_totals month;
+    nedrulov_this_month month;
     uint64_t carry;                 /* units */
     int64_t owed;                   /* mills */
     uint64_t violation_days;
-    nedrulov_marks marks;
 } nedrulov_account;
 
 typedef struct {
@@ -244,17 +250,20 @@ nedrulov_band_limits nedrulov_band(uint64_t month, uint64_t bcq);
 
 NEDRULOV_ASSERT(size_of_size, sizeof(size_t) == 8);
 NEDRULOV_ASSERT(size_of_bool, sizeof(bool) == 1);
-NEDRULOV_ASSERT(size_of_marks, sizeof(nedrulov_marks) == 6);
+NEDRULOV_ASSERT(size_of_today, sizeof(nedrulov_today) == 3);
+NEDRULOV_ASSERT(size_of_this_month, sizeof(nedrulov_this_month) == 56);
+NEDRULOV_ASSERT(measured_offset, offsetof(nedrulov_this_month, measured) == 48);
 NEDRULOV_ASSERT(size_of_account, sizeof(nedrulov_account) == 152);
+NEDRULOV_ASSERT(excused_offset, offsetof(nedrulov_account, excused) == 1);
+NEDRULOV_ASSERT(today_offset, offsetof(nedrulov_account, today) == 2);
 NEDRULOV_ASSERT(bank_offset, offsetof(nedrulov_account, bank) == 8);
 NEDRULOV_ASSERT(mdq_offset, offsetof(nedrulov_account, mdq) == 16);
 NEDRULOV_ASSERT(step_offset, offsetof(nedrulov_account, step) == 24);
 NEDRULOV_ASSERT(capacity_offset, offsetof(nedrulov_account, capacity) == 56);
 NEDRULOV_ASSERT(month_offset, offsetof(nedrulov_account, month) == 72);
-NEDRULOV_ASSERT(carry_offset, offsetof(nedrulov_account, carry) == 120);
-NEDRULOV_ASSERT(owed_offset, offsetof(nedrulov_account, owed) == 128);
-NEDRULOV_ASSERT(violation_days_offset, offsetof(nedrulov_account, violation_days) == 136);
-NEDRULOV_ASSERT(marks_offset, offsetof(nedrulov_account, marks) == 144);
+NEDRULOV_ASSERT(carry_offset, offsetof(nedrulov_account, carry) == 128);
+NEDRULOV_ASSERT(owed_offset, offsetof(nedrulov_account, owed) == 136);
+NEDRULOV_ASSERT(violation_days_offset, offsetof(nedrulov_account, violation_days) == 144);
 NEDRULOV_ASSERT(size_of_ledger, sizeof(nedrulov_ledger) == 2512);
 NEDRULOV_ASSERT(date_offset, offsetof(nedrulov_ledger, date) == 8);
 NEDRULOV_ASSERT(terms_offset, offsetof(nedrulov_ledger, terms) == 32);

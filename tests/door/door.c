@@ -17,13 +17,14 @@ static void expect(bool right, const char *what, size_t at)
 
 static bool same_account(const nedrulov_account *a, const nedrulov_account *b)
 {
-    /* step, capacity and month have no padding */
-    return a->opened == b->opened && a->bank == b->bank && a->mdq == b->mdq
+    /* today, step, capacity and the month's totals have no padding */
+    return a->opened == b->opened && a->excused == b->excused && a->bank == b->bank && a->mdq == b->mdq
+        && memcmp(&a->today, &b->today, sizeof a->today) == 0
         && memcmp(&a->step, &b->step, sizeof a->step) == 0
         && memcmp(&a->capacity, &b->capacity, sizeof a->capacity) == 0
-        && memcmp(&a->month, &b->month, sizeof a->month) == 0
-        && a->carry == b->carry && a->owed == b->owed && a->violation_days == b->violation_days
-        && memcmp(&a->marks, &b->marks, sizeof a->marks) == 0;
+        && memcmp(&a->month.totals, &b->month.totals, sizeof a->month.totals) == 0
+        && a->month.measured == b->month.measured && a->month.metered == b->month.metered
+        && a->carry == b->carry && a->owed == b->owed && a->violation_days == b->violation_days;
 }
 
 static bool same_ledger(const nedrulov_ledger *a, const nedrulov_ledger *b)
@@ -84,15 +85,15 @@ static void first_day(void)
     expect(a->opened && a->bank == 1000 && a->mdq == 4200 && a->step.k == 2 && a->step.pending == 2, "account", 0);
     expect(a->capacity.mddq == 1500 && a->capacity.bcq == 62505, "capacity", 0);
     expect(nedrulov_post(&l, sale, 32).number == 0 && nedrulov_post(&l, purchase, 32).number == 0, "TRADE", 0);
-    expect(a->month.sales == 70 && a->month.purchases == 20 && a->bank == 1050, "trades", 0);
-    expect(nedrulov_post(&l, usage, 32).number == 0 && a->month.usage == 11 && a->marks.metered, "USAGE", 0);
+    expect(a->month.totals.sales == 70 && a->month.totals.purchases == 20 && a->bank == 1050, "trades", 0);
+    expect(nedrulov_post(&l, usage, 32).number == 0 && a->month.totals.usage == 11 && a->month.metered, "USAGE", 0);
     /* 1,000 delivered less 3,000 back-cast, after retainage */
-    expect(nedrulov_post(&l, deliver, 32).number == 0 && a->month.net == -1970 && a->bank == -920, "DELIVER", 0);
-    expect(a->marks.delivered && !a->marks.v1 && !a->marks.v2, "marks", 0);
+    expect(nedrulov_post(&l, deliver, 32).number == 0 && a->month.totals.net == -1970 && a->bank == -920, "DELIVER", 0);
+    expect(a->today.delivered && !a->today.v1 && !a->today.v2, "marks", 0);
     nedrulov_answer closed = nedrulov_post(&l, close_day, 32);
     expect(closed.number == 0 && closed.reports[3].mask == NEDRULOV_V7 && closed.reports[3].cash == 920, "CLOSE DAY", 0);
-    expect(a->bank == 0 && a->month.cash_ins == 920 && a->violation_days == 1 && l.date.day == 2 && !l.touched, "closed", 0);
-    expect(!a->marks.delivered && a->marks.metered, "marks after", 0);
+    expect(a->bank == 0 && a->month.totals.cash_ins == 920 && a->violation_days == 1 && l.date.day == 2 && !l.touched, "closed", 0);
+    expect(!a->today.delivered && a->month.metered, "marks after", 0);
 }
 
 static void archive_calls(const uint8_t *archive, size_t length, const uint8_t *list, size_t list_length)

@@ -51,7 +51,7 @@ pub struct Capacity {
     pub bcq: u64,
 }
 
-/// The month so far: gas in hundredths of a Dth, usage in Mcf.
+/// What an account moved and used since the month began: gas in hundredths of a Dth, usage in Mcf.
 #[repr(C)]
 #[derive(Clone, Copy, Debug, Default, PartialEq, Eq)]
 pub struct Totals {
@@ -63,15 +63,22 @@ pub struct Totals {
     pub usage: u64,
 }
 
+/// The day so far: every closing clears it.
 #[repr(C)]
 #[derive(Clone, Copy, Debug, Default, PartialEq, Eq)]
-pub struct Marks {
+pub struct Today {
     pub delivered: bool,
-    pub measured: bool,
-    pub metered: bool,
     pub v1: bool,
     pub v2: bool,
-    pub excused: bool,
+}
+
+/// The month so far: CLOSE MONTH clears it.
+#[repr(C)]
+#[derive(Clone, Copy, Debug, Default, PartialEq, Eq)]
+pub struct ThisMonth {
+    pub totals: Totals,
+    pub measured: bool,
+    pub metered: bool,
 }
 
 /// Gas in hundredths of a Dth, MDQ in Dth, money in mills.
@@ -79,15 +86,16 @@ pub struct Marks {
 #[derive(Clone, Copy, Debug, Default, PartialEq, Eq)]
 pub struct Account {
     pub opened: bool,
+    pub excused: bool,
+    pub today: Today,
     pub bank: i64,
     pub mdq: u64,
     pub step: Step,
     pub capacity: Capacity,
-    pub month: Totals,
+    pub month: ThisMonth,
     pub carry: u64,
     pub owed: i64,
     pub violation_days: u64,
-    pub marks: Marks,
 }
 
 #[repr(C)]

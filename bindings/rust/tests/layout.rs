@@ -10,7 +10,8 @@ fn sizes() {
     assert_eq!(size_of::<Step>(), 32);
     assert_eq!(size_of::<Capacity>(), 16);
     assert_eq!(size_of::<Totals>(), 48);
-    assert_eq!(size_of::<Marks>(), 6);
+    assert_eq!(size_of::<Today>(), 3);
+    assert_eq!(size_of::<ThisMonth>(), 56);
     assert_eq!(size_of::<Account>(), 152);
     assert_eq!(size_of::<Ledger>(), 2512);
     assert_eq!(size_of::<Report>(), 32);
@@ -26,15 +27,17 @@ fn sizes() {
 
 #[test]
 fn offsets() {
+    assert_eq!(offset_of!(ThisMonth, measured), 48);
+    assert_eq!(offset_of!(Account, excused), 1);
+    assert_eq!(offset_of!(Account, today), 2);
     assert_eq!(offset_of!(Account, bank), 8);
     assert_eq!(offset_of!(Account, mdq), 16);
     assert_eq!(offset_of!(Account, step), 24);
     assert_eq!(offset_of!(Account, capacity), 56);
     assert_eq!(offset_of!(Account, month), 72);
-    assert_eq!(offset_of!(Account, carry), 120);
-    assert_eq!(offset_of!(Account, owed), 128);
-    assert_eq!(offset_of!(Account, violation_days), 136);
-    assert_eq!(offset_of!(Account, marks), 144);
+    assert_eq!(offset_of!(Account, carry), 128);
+    assert_eq!(offset_of!(Account, owed), 136);
+    assert_eq!(offset_of!(Account, violation_days), 144);
     assert_eq!(offset_of!(Ledger, touched), 1);
     assert_eq!(offset_of!(Ledger, date), 8);
     assert_eq!(offset_of!(Ledger, terms), 32);

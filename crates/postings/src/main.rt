@@ -111,17 +111,19 @@ fn with_capacity(a: Account, field: u64, v: u64) -> Account {
 
 fn with_month(a: Account, field: u64, v: u64) -> Account {
     let mut month = a.month;
+    let mut totals = month.totals;
     let net = units_of(v);
     let q = Quantity(v);
     let used = Mcf(v);
     match field {
-        8 => month.net = net,
-        9 => month.sales = q,
-        10 => month.purchases = q,
-        11 => month.cash_ins = q,
-        12 => month.cash_outs = q,
-        _ => month.usage = used,
+        8 => totals.net = net,
+        9 => totals.sales = q,
+        10 => totals.purchases = q,
+        11 => totals.cash_ins = q,
+        12 => totals.cash_outs = q,
+        _ => totals.usage = used,
     }
+    month.totals = totals;
     let mut next = a;
     next.month = month;
     next
@@ -133,9 +135,7 @@ fn with_marks(a: Account, field: u64, v: u64) -> Account {
         next.opened = v != 0;
         return next;
     }
-    let mut marks = a.marks;
-    marks.excused = v != 0;
-    next.marks = marks;
+    next.excused = v != 0;
     next
 }
 

@@ -27,6 +27,12 @@ pub fn to_library(ledger: &referee::Ledger) -> library::Ledger {
 fn account_to_library(account: &referee::Account) -> library::Account {
     library::Account {
         opened: account.opened,
+        excused: account.excused,
+        today: library::Today {
+            delivered: account.delivered,
+            v1: account.v1,
+            v2: account.v2,
+        },
         bank: account.bank,
         mdq: account.mdq,
         step: library::Step {
@@ -39,7 +45,16 @@ fn account_to_library(account: &referee::Account) -> library::Account {
             mddq: account.mddq,
             bcq: account.bcq,
         },
-        month: library::Totals {
+        month: month_to_library(account),
+        carry: account.carry,
+        owed: account.owed,
+        violation_days: account.violation_days,
+    }
+}
+
+fn month_to_library(account: &referee::Account) -> library::ThisMonth {
+    library::ThisMonth {
+        totals: library::Totals {
             net: account.net,
             sales: account.sales,
             purchases: account.purchases,
@@ -47,21 +62,8 @@ fn account_to_library(account: &referee::Account) -> library::Account {
             cash_outs: account.cash_outs,
             usage: account.usage,
         },
-        carry: account.carry,
-        owed: account.owed,
-        violation_days: account.violation_days,
-        marks: marks_to_library(account),
-    }
-}
-
-fn marks_to_library(account: &referee::Account) -> library::Marks {
-    library::Marks {
-        delivered: account.delivered,
         measured: account.measured,
         metered: account.metered,
-        v1: account.v1,
-        v2: account.v2,
-        excused: account.excused,
     }
 }
 
@@ -86,7 +88,8 @@ pub fn to_referee(ledger: &library::Ledger) -> referee::Ledger {
 }
 
 fn account_to_referee(account: &library::Account) -> referee::Account {
-    let (step, month, marks) = (&account.step, &account.month, &account.marks);
+    let (step, month, today) = (&account.step, &account.month, &account.today);
+    let totals = &month.totals;
     referee::Account {
         opened: account.opened,
         bank: account.bank,
@@ -97,21 +100,21 @@ fn account_to_referee(account: &library::Account) -> referee::Account {
         under: step.under,
         mddq: account.capacity.mddq,
         bcq: account.capacity.bcq,
-        net: month.net,
-        sales: month.sales,
-        purchases: month.purchases,
-        cash_ins: month.cash_ins,
-        cash_outs: month.cash_outs,
-        usage: month.usage,
+        net: totals.net,
+        sales: totals.sales,
+        purchases: totals.purchases,
+        cash_ins: totals.cash_ins,
+        cash_outs: totals.cash_outs,
+        usage: totals.usage,
         carry: account.carry,
         owed: account.owed,
         violation_days: account.violation_days,
-        delivered: marks.delivered,
-        measured: marks.measured,
-        metered: marks.metered,
-        v1: marks.v1,
-        v2: marks.v2,
-        excused: marks.excused,
+        delivered: today.delivered,
+        measured: month.measured,
+        metered: month.metered,
+        v1: today.v1,
+        v2: today.v2,
+        excused: account.excused,
     }
 }
 
