@@ -1,4 +1,4 @@
--- Header, directory and list each begin where the one before it ends, so their lengths add up and the three together are the archive.
+-- Header, directory and list each begin where the one before it ends, so their lengths add up and the three concatenated are the archive.
 use native.Mathlib.Omega.{arith}
 use Prim.Native.Nat.{ℕ, _+_, _*_, _%_}
 use mathlib.Core.Path.{_≡_, refl, sym, ap, _∙_}
@@ -6,14 +6,14 @@ use mathlib.Core.List.{List, _++_}
 use lib.ListN.{length, drop, length-append}
 use lib.Seq.{paste, take-at, take-all, drop-drop, drop-append-add}
 use Rattle.archive.specs.Entries.{entriesOf}
-use Rattle.archive.specs.Layout.{sectionsOf, together, header, directory, bodyAt, packed, archiveOf}
+use Rattle.archive.specs.Layout.{sectionsOf, concatenated, header, directory, bodyAt, packed, archiveOf}
 use Rattle.archive.proofs.EntryLists.{together-all}
 use Rattle.archive.proofs.Partitions.{together-sections}
 use Rattle.archive.proofs.Headers.{length-header}
 use Rattle.archive.proofs.Directories.{length-directory}
 use Rattle.archive.proofs.Packing.{length-packed}
 
-pub sections-all : (list : List ℕ) → length list % 32 ≡ 0 → together (sectionsOf (entriesOf list)) ≡ list
+pub sections-all : (list : List ℕ) → length list % 32 ≡ 0 → concatenated (sectionsOf (entriesOf list)) ≡ list
 sections-all list h = together-sections (entriesOf list) ∙ together-all list h
 
 pub length-archive : (list : List ℕ) → length list % 32 ≡ 0 → length (archiveOf list) ≡ 8 + 8 * length (sectionsOf (entriesOf list)) + length list

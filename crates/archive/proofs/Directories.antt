@@ -5,12 +5,13 @@ use mathlib.Core.Path.{_≡_, refl, sym, ap, _∙_}
 use mathlib.Core.List.{List, [], _∷_, _++_, append-assoc}
 use lib.ListN.{length, take, drop, length-drop, length-append}
 use lib.Seq.{length-take-le, getD-drop, drop-drop, take-add, paste}
-use Rattle.archive.specs.Words.{bytesOf, wordAt}
-use Rattle.archive.specs.Layout.{together, directory}
+use Rattle.ledger.specs.Entries.{wordAt}
+use Rattle.archive.specs.Words.{bytesOf}
+use Rattle.archive.specs.Layout.{concatenated, directory}
 use Rattle.archive.specs.Reading.{Pair, pairAt, pairsFrom}
 use Rattle.archive.specs.RoundTrips.{Bytes}
 use Rattle.archive.proofs.Parts.{paste-more}
-use Rattle.archive.proofs.Numbers.{bytes-of-value, length-bytes, word-put}
+use Rattle.archive.proofs.Numbers.{word-value, bytes-of-value, length-bytes, word-put}
 
 -- the pairs of sections, the first beginning at an offset
 unfoldable pub pairsFor : ℕ → List (List ℕ) → List Pair
@@ -25,14 +26,14 @@ length-directory off (s ∷ ss) = simp (length-append, length-bytes) (omega (ari
 -- ---- written, then read
 
 pub pairs-put : (ss : List (List ℕ)) (a before after : List ℕ) (off i : ℕ) → a ≡ before ++ (directory off ss ++ after) → length before ≡ 8 + 8 * i
-    → off + length (together ss) < 4294967296 → pairsFrom a i (length ss) ≡ pairsFor off ss
-unfolding directory pairsFrom pairAt pairsFor together
+    → off + length (concatenated ss) < 4294967296 → pairsFrom a i (length ss) ≡ pairsFor off ss
+unfolding directory pairsFrom pairAt pairsFor concatenated
 pairs-put [] a before after off i e h k = refl
 pairs-put (s ∷ ss) a before after off i e h k =
     let w : List ℕ = bytesOf 4 off in
     let v : List ℕ = bytesOf 4 (length s) in
     let rest : List ℕ = directory (off + length s) ss ++ after in
-    let size : length (s ++ together ss) ≡ length s + length (together ss) = length-append s (together ss) in
+    let size : length (s ++ concatenated ss) ≡ length s + length (concatenated ss) = length-append s (concatenated ss) in
     let one : a ≡ before ++ (w ++ (v ++ rest)) = e ∙ simp append-assoc in
     let two : a ≡ (before ++ w) ++ (v ++ rest) = one ∙ sym (append-assoc before w (v ++ rest)) in
     let three : a ≡ (before ++ w ++ v) ++ rest = two ∙ sym (append-assoc (before ++ w) v rest) in
@@ -54,10 +55,9 @@ bytes-drop : (n : ℕ) (a : List ℕ) → Bytes a → Bytes (drop n a)
 bytes-drop n a b i = rw (getD-drop n a i 0) (b (n + i))
 
 word-again : (a : List ℕ) (at : ℕ) → Bytes a → at + 4 ≤ length a → bytesOf 4 (wordAt a at) ≡ take 4 (drop at a)
-unfolding wordAt
 word-again a at b h =
     let size : length (take 4 (drop at a)) ≡ 4 = length-take-le 4 (drop at a) (rw length-drop (omega arith)) in
-    rw size at (bytes-of-value (take 4 (drop at a)) (bytes-take 4 (drop at a) (bytes-drop at a b)))
+    ap (bytesOf 4) (word-value a at h) ∙ rw size at (bytes-of-value (take 4 (drop at a)) (bytes-take 4 (drop at a) (bytes-drop at a b)))
 
 -- the bytes of pairs
 unfoldable pairBytes : List Pair → List ℕ

@@ -1,4 +1,4 @@
--- Every entry has 32 bytes, so to pass k entries of a list is to pass 32 k of its bytes, and whole entries put together are entries again.
+-- Every entry has 32 bytes, so to pass k entries of a list is to pass 32 k of its bytes, and whole entries put concatenated are entries again.
 use native.Mathlib.Omega.{arith}
 use native.Mathlib.Nat.{zero-add}
 use Prim.Native.Nat.{ℕ, zero, suc, _+_, _*_, _-_, _/_, _%_, _<_, _≤_}
@@ -7,7 +7,7 @@ use mathlib.Core.List.{List, [], _∷_, _++_}
 use lib.ListN.{length, take, drop, length-drop, length-append}
 use lib.Seq.{drop-drop, take-append-le, drop-append-le, take-add, take-all}
 use Rattle.archive.specs.Entries.{firstEntries, entriesOf}
-use Rattle.archive.specs.Layout.{together}
+use Rattle.archive.specs.Layout.{concatenated}
 
 -- the entry at k, and those after it, as a loop meets them
 pub entries-next : (n k : ℕ) (s : List ℕ) → k < n → firstEntries (n - k) (drop (32 * k) s) ≡ take (32 * k + 32 - 32 * k) (drop (32 * k) s) ∷ firstEntries (n - (k + 1)) (drop (32 * (k + 1)) s)
@@ -43,14 +43,14 @@ drop-entries (suc k) (suc n) s h =
     rw (m, j) (drop-entries k n (drop 32 s) (omega arith) ∙ ap (firstEntries (n - k)) (drop-drop (32 * k) 32 s))
 
 -- the bytes of the first n entries
-pub together-entries : (n : ℕ) (s : List ℕ) → together (firstEntries n s) ≡ take (32 * n) s
-unfolding firstEntries together
+pub together-entries : (n : ℕ) (s : List ℕ) → concatenated (firstEntries n s) ≡ take (32 * n) s
+unfolding firstEntries concatenated
 together-entries zero s = refl
 together-entries (suc n) s =
     let j : 32 * suc n ≡ 32 + 32 * n = omega arith in
     rw (j, together-entries n (drop 32 s)) (sym (take-add 32 (32 * n) s))
 
-pub together-all : (s : List ℕ) → length s % 32 ≡ 0 → together (entriesOf s) ≡ s
+pub together-all : (s : List ℕ) → length s % 32 ≡ 0 → concatenated (entriesOf s) ≡ s
 unfolding entriesOf
 together-all s h = together-entries (length s / 32) s ∙ take-all (32 * (length s / 32)) s (omega arith)
 

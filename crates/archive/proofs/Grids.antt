@@ -13,7 +13,7 @@ use Rattle.ledger.specs.State.{fresh}
 use Rattle.ledger.specs.Posting.{posted}
 use Rattle.ledger.specs.declared.state.Ledger.{Ledger}
 use Rattle.ledger.specs.declared.answers.Posted.{Posted}
-use Rattle.archive.specs.YearSheet.{upTo, grid, nothing, cellAt, bankIn, closesIn, cellAfter}
+use Rattle.archive.specs.YearSheet.{upTo, grid, noBank, cellAt, bankIn, closesIn, cellAfter}
 
 -- ---- a list of f of 0, 1, up to n − 1
 
@@ -47,13 +47,13 @@ module _ {A : Type 0} where
 -- ---- a grid
 
 pub cell-at : (sheet : List (List Units)) (i m : ℕ) → cellAt sheet i m ≡ getD (getD sheet i []) m (record { 0 = pos 0 })
-unfolding cellAt nothing
+unfolding cellAt noBank
 cell-at sheet i m = refl
 
 module _ (f : ℕ → ℕ → Units) where
   cell-grid : (i m : ℕ) → i < 16 → m < 12 → cellAt (grid f) i m ≡ f i m
   unfolding grid cellAt
-  cell-grid i m h k = ap (λ row. getD row m nothing) (get-upTo 16 (λ j. upTo 12 (f j)) i [] h) ∙ get-upTo 12 (f i) m nothing k
+  cell-grid i m h k = ap (λ row. getD row m noBank) (get-upTo 16 (λ j. upTo 12 (f j)) i [] h) ∙ get-upTo 12 (f i) m noBank k
 
   same-grid : (g : ℕ → ℕ → Units) → ((i m : ℕ) → i < 16 → m < 12 → f i m ≡ g i m) → grid f ≡ grid g
   unfolding grid
@@ -130,9 +130,9 @@ module _ (year : ℕ) where
       ∙ ap (λ q. sheetAfter (grid (f q)) (q .ledger) es) h
       ∙ same-grid (λ i m. next i m (cellAt (grid (f (posted l e))) i m)) (λ i m. next i m (f (posted l e) i m)) (λ i m a b. ap (next i m) (cell-grid (f (posted l e)) i m a b))
 
-  pub after-all : (s : List (List Units)) (l : Ledger) (es : List (List ℕ)) → s ≡ grid (λ i m. nothing) → l ≡ fresh → sheetAfter s l es ≡ grid (λ i m. cellAfter year i m nothing fresh es)
+  pub after-all : (s : List (List Units)) (l : Ledger) (es : List (List ℕ)) → s ≡ grid (λ i m. noBank) → l ≡ fresh → sheetAfter s l es ≡ grid (λ i m. cellAfter year i m noBank fresh es)
   unfolding sheetAfter
   after-all s l es e h =
-      let zeros : List (List Units) = grid (λ i m. nothing) in
+      let zeros : List (List Units) = grid (λ i m. noBank) in
       ap₂ (λ r k. sheetAfter r k es) e h
-      ∙ same-grid (λ i m. cellAfter year i m (cellAt zeros i m) fresh es) (λ i m. cellAfter year i m nothing fresh es) (λ i m a b. ap (λ x. cellAfter year i m x fresh es) (cell-grid (λ i m. nothing) i m a b))
+      ∙ same-grid (λ i m. cellAfter year i m (cellAt zeros i m) fresh es) (λ i m. cellAfter year i m noBank fresh es) (λ i m a b. ap (λ x. cellAfter year i m x fresh es) (cell-grid (λ i m. noBank) i m a b))

@@ -2,18 +2,19 @@
 use borrow.Author.Tests.{eqb-true, ltb-false, eq-eqb, le-ltb, not-false}
 use native.Mathlib.Omega.{arith}
 use Prim.Native.Nat.{ℕ, _+_, _*_, _/_, _%_, _<_, _≤_}
-use mathlib.Core.Path.{_≡_, refl}
+use mathlib.Core.Path.{_∙_, _≡_, refl}
 use mathlib.Core.Bool.{true, false}
 use mathlib.Core.List.{List, [], _∷_, _++_}
 use lib.Dec.{eqb}
 use lib.ListN.{length, getD, take}
 use lib.Seq.{take-suc}
 use Rattle.tariff.proofs.Bools.{and-left, and-right, or-left, or-right}
-use Rattle.archive.specs.Words.{bytesOf, halfAt}
-use Rattle.archive.specs.Layout.{opening, header, bodyAt}
+use Rattle.ledger.specs.Entries.{halfAt}
+use Rattle.archive.specs.Words.{bytesOf}
+use Rattle.archive.specs.Layout.{openingBytes, header, bodyAt}
 use Rattle.archive.specs.Reading.{sectionCount, rightOpening, wrongHeader}
 use Rattle.archive.specs.RoundTrips.{Bytes}
-use Rattle.archive.proofs.Numbers.{value-of-bytes, half-read}
+use Rattle.ledger.proofs.Fields.{half-bytes}
 
 -- ---- as it is written
 
@@ -22,8 +23,8 @@ unfolding header bytesOf
 length-header n = refl
 
 pub count-put : (n : ℕ) (rest : List ℕ) → n < 65536 → sectionCount (header n ++ rest) ≡ n
-unfolding sectionCount halfAt header bytesOf
-count-put n rest h = value-of-bytes 2 n (omega arith)
+unfolding sectionCount header bytesOf
+count-put n rest h = half-bytes (header n ++ rest) 4 ∙ omega arith
 
 pub opening-put : (n : ℕ) (rest : List ℕ) → rightOpening (header n ++ rest) ≡ true
 unfolding rightOpening header
@@ -76,13 +77,13 @@ measured a h =
 
 -- ---- the one is the other
 
-opening-bytes : (a : List ℕ) → rightOpening a ≡ true → (getD a 0 0 ≡ getD opening 0 0) × (getD a 1 0 ≡ getD opening 1 0) × (getD a 2 0 ≡ getD opening 2 0) × (getD a 3 0 ≡ getD opening 3 0)
+opening-bytes : (a : List ℕ) → rightOpening a ≡ true → (getD a 0 0 ≡ getD openingBytes 0 0) × (getD a 1 0 ≡ getD openingBytes 1 0) × (getD a 2 0 ≡ getD openingBytes 2 0) × (getD a 3 0 ≡ getD openingBytes 3 0)
 unfolding rightOpening
 opening-bytes a h = (
-  eqb-true (getD a 0 0) (getD opening 0 0) (search (and-left, and-right)),
-  eqb-true (getD a 1 0) (getD opening 1 0) (search (and-left, and-right)),
-  eqb-true (getD a 2 0) (getD opening 2 0) (search (and-left, and-right)),
-  eqb-true (getD a 3 0) (getD opening 3 0) (search (and-left, and-right)),
+  eqb-true (getD a 0 0) (getD openingBytes 0 0) (search (and-left, and-right)),
+  eqb-true (getD a 1 0) (getD openingBytes 1 0) (search (and-left, and-right)),
+  eqb-true (getD a 2 0) (getD openingBytes 2 0) (search (and-left, and-right)),
+  eqb-true (getD a 3 0) (getD openingBytes 3 0) (search (and-left, and-right)),
 )
 
 eight : (a : List ℕ) → 8 ≤ length a
@@ -94,6 +95,6 @@ pub header-again : (a : List ℕ) → Bytes a → Headed a → header (sectionCo
 unfolding header bytesOf sectionCount
 header-again a b h =
     let o = opening-bytes a (h .opens) in
-    let low : halfAt a 4 % 256 ≡ getD a 4 0 = rw (half-read a 4 (omega (arith, h .long))) (omega (arith, b 4, b 5)) in
-    let high : halfAt a 4 / 256 % 256 ≡ getD a 5 0 = rw (half-read a 4 (omega (arith, h .long))) (omega (arith, b 4, b 5)) in
+    let low : halfAt a 4 % 256 ≡ getD a 4 0 = rw (half-bytes a 4) (omega (arith, b 4, b 5)) in
+    let high : halfAt a 4 / 256 % 256 ≡ getD a 5 0 = rw (half-bytes a 4) (omega (arith, b 4, b 5)) in
     rw (eight a (h .long), o .0, o .1, o .2, o .3, h .six, h .seven, low, high)

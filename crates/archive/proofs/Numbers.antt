@@ -3,15 +3,22 @@ use native.Mathlib.Omega.{arith}
 use Prim.Native.Nat.{ℕ, zero, suc, _+_, _*_, _/_, _%_, _<_, _≤_}
 use mathlib.Core.Path.{_≡_, refl, sym, ap, _∙_}
 use mathlib.Core.List.{List, [], _∷_, _++_}
-use lib.ListN.{length, getD, take, drop}
+use lib.ListN.{length, getD, take, drop, length-append}
 use lib.Seq.{drop-at, drop-cons}
-use Rattle.archive.specs.Words.{valueOf, bytesOf, halfAt, wordAt}
+use Rattle.ledger.specs.Entries.{halfAt, wordAt}
+use Rattle.archive.specs.Words.{bytesOf}
+use Rattle.ledger.proofs.Fields.{word-bytes}
 use Rattle.archive.specs.RoundTrips.{Bytes}
 
 -- n has room in so many bytes
 abbrev Within : ℕ → ℕ → Type 0
 Within zero n = n ≡ 0
 Within (suc width) n = Within width (n / 256)
+
+-- the number that some bytes hold, the low byte first
+unfoldable pub valueOf : List ℕ → ℕ
+valueOf [] = 0
+valueOf (b ∷ bs) = b + 256 * valueOf bs
 
 pub value-of-bytes : (width n : ℕ) → Within width n → valueOf (bytesOf width n) ≡ n
 unfolding valueOf bytesOf
@@ -32,27 +39,22 @@ unfolding bytesOf
 length-bytes zero n = refl
 length-bytes (suc width) n = ap suc (length-bytes width (n / 256))
 
--- a word that was put at a place, read there
-pub word-put : (before after : List ℕ) (at n : ℕ) → length before ≡ at → n < 4294967296 → wordAt (before ++ (bytesOf 4 n ++ after)) at ≡ n
-unfolding wordAt bytesOf
-word-put before after at n e h =
-    ap (λ (l : List ℕ). valueOf (take 4 l)) (drop-at before (bytesOf 4 n ++ after) at e) ∙ value-of-bytes 4 n (omega arith)
-
 -- the bytes that a word is read from
 four : (s : List ℕ) (at : ℕ) → at + 4 ≤ length s → take 4 (drop at s) ≡ getD s at 0 ∷ getD s (suc at) 0 ∷ getD s (suc (suc at)) 0 ∷ getD s (suc (suc (suc at))) 0 ∷ []
 four s at h =
     rw (drop-cons s at 0 (omega arith), drop-cons s (suc at) 0 (omega arith), drop-cons s (suc (suc at)) 0 (omega arith), drop-cons s (suc (suc (suc at))) 0 (omega arith))
 
-pub word-read : (s : List ℕ) (at : ℕ) → at + 4 ≤ length s → wordAt s at ≡ getD s at 0 + 256 * (getD s (at + 1) 0 + 256 * (getD s (at + 2) 0 + 256 * getD s (at + 3) 0))
-unfolding wordAt valueOf
-word-read s at h =
+pub word-value : (s : List ℕ) (at : ℕ) → at + 4 ≤ length s → wordAt s at ≡ valueOf (take 4 (drop at s))
+unfolding valueOf
+word-value s at h =
     let one : at + 1 ≡ suc at = omega arith in
     let two : at + 2 ≡ suc (suc at) = omega arith in
     let three : at + 3 ≡ suc (suc (suc at)) = omega arith in
-    rw (four s at h, one, two, three) (omega arith)
+    word-bytes s at ∙ rw (four s at h, one, two, three) (omega arith)
 
-pub half-read : (s : List ℕ) (at : ℕ) → at + 2 ≤ length s → halfAt s at ≡ getD s at 0 + 256 * getD s (at + 1) 0
-unfolding halfAt valueOf
-half-read s at h =
-    let one : at + 1 ≡ suc at = omega arith in
-    rw (drop-cons s at 0 (omega arith), drop-cons s (suc at) 0 (omega arith), one) (omega arith)
+-- a word that was put at a place, read there
+pub word-put : (before after : List ℕ) (at n : ℕ) → length before ≡ at → n < 4294967296 → wordAt (before ++ (bytesOf 4 n ++ after)) at ≡ n
+unfolding bytesOf
+word-put before after at n e h =
+    word-value (before ++ (bytesOf 4 n ++ after)) at (simp (length-append) (omega (arith, e)))
+    ∙ ap (λ (l : List ℕ). valueOf (take 4 l)) (drop-at before (bytesOf 4 n ++ after) at e) ∙ value-of-bytes 4 n (omega arith)

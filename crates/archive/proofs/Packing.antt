@@ -6,7 +6,7 @@ use mathlib.Core.Bool.{true, false}
 use mathlib.Core.List.{List, _++_, append-assoc}
 use lib.ListN.{length, take, drop, length-append, take-append-drop, length-map}
 use lib.Seq.{drop-at, take-add}
-use Rattle.archive.specs.Layout.{together, header, directory, bodyAt, packed}
+use Rattle.archive.specs.Layout.{concatenated, header, directory, bodyAt, packed}
 use Rattle.archive.specs.Reading.{sectionCount, wrongHeader, pairsFrom, pairsOf, rightDirectory, partAt, partsOf, listOf}
 use Rattle.archive.specs.RoundTrips.{Bytes}
 use Rattle.archive.proofs.Partitions.{Good}
@@ -25,18 +25,18 @@ length-front : (ss : List (List ℕ)) → length (front ss) ≡ bodyAt (length s
 unfolding bodyAt
 length-front ss = length-append (header (length ss)) (directory (8 + 8 * length ss) ss) ∙ rw (length-header, length-directory)
 
-pub length-packed : (ss : List (List ℕ)) → length (packed ss) ≡ bodyAt (length ss) + length (together ss)
+pub length-packed : (ss : List (List ℕ)) → length (packed ss) ≡ bodyAt (length ss) + length (concatenated ss)
 unfolding packed
-length-packed ss = length-append (front ss) (together ss) ∙ rw (length-front ss)
+length-packed ss = length-append (front ss) (concatenated ss) ∙ rw (length-front ss)
 
 -- the header, then the rest
-headed-packed : (ss : List (List ℕ)) → packed ss ≡ header (length ss) ++ (directory (bodyAt (length ss)) ss ++ together ss)
+headed-packed : (ss : List (List ℕ)) → packed ss ≡ header (length ss) ++ (directory (bodyAt (length ss)) ss ++ concatenated ss)
 unfolding packed
-headed-packed ss = append-assoc (header (length ss)) (directory (bodyAt (length ss)) ss) (together ss)
+headed-packed ss = append-assoc (header (length ss)) (directory (bodyAt (length ss)) ss) (concatenated ss)
 
 module _ (ss : List (List ℕ)) (good : Good ss) (few : length ss ≤ 1200) (short : length (packed ss) ≤ 4294967295) where
   abbrev rest : List ℕ
-  rest = directory (bodyAt (length ss)) ss ++ together ss
+  rest = directory (bodyAt (length ss)) ss ++ concatenated ss
 
   pub count-packed : sectionCount (packed ss) ≡ length ss
   count-packed = ap sectionCount (headed-packed ss) ∙ count-put (length ss) rest (omega arith)
@@ -59,7 +59,7 @@ module _ (ss : List (List ℕ)) (good : Good ss) (few : length ss ≤ 1200) (sho
   unfolding pairsOf
   pairs-packed =
       rw count-packed
-      (pairs-put ss (packed ss) (header (length ss)) (together ss) (bodyAt (length ss)) 0 (headed-packed ss) (length-header (length ss)) (omega (arith, length-packed ss)))
+      (pairs-put ss (packed ss) (header (length ss)) (concatenated ss) (bodyAt (length ss)) 0 (headed-packed ss) (length-header (length ss)) (omega (arith, length-packed ss)))
 
   pub directory-packed : rightDirectory (packed ss) ≡ true
   unfolding rightDirectory
@@ -69,9 +69,9 @@ module _ (ss : List (List ℕ)) (good : Good ss) (few : length ss ≤ 1200) (sho
   unfolding partsOf packed
   parts-packed = rw pairs-packed (parts-for ss (packed ss) (front ss) (bodyAt (length ss)) refl (length-front ss))
 
-  pub list-packed : listOf (packed ss) ≡ together ss
+  pub list-packed : listOf (packed ss) ≡ concatenated ss
   unfolding listOf packed
-  list-packed = rw count-packed (drop-at (front ss) (together ss) (bodyAt (length ss)) (length-front ss))
+  list-packed = rw count-packed (drop-at (front ss) (concatenated ss) (bodyAt (length ss)) (length-front ss))
 
 -- ---- read, then packed
 
@@ -88,7 +88,7 @@ module _ (a : List ℕ) (right : rightDirectory a ≡ true) where
   unfolding partsOf
   parts-good = in-parts .good
 
-  pub list-parts : together (partsOf a) ≡ listOf a
+  pub list-parts : concatenated (partsOf a) ≡ listOf a
   unfolding partsOf listOf
   list-parts = in-parts .all
 

@@ -9,7 +9,7 @@ use lib.Dec.{eqb, eqb·suc-zero}
 use lib.ListN.{length, length-append}
 use Rattle.ledger.specs.Entries.{formNumber}
 use Rattle.archive.specs.Entries.{firstEntries, entriesOf, closesMonth}
-use Rattle.archive.specs.Layout.{joined, sectionsOf, together}
+use Rattle.archive.specs.Layout.{joined, sectionsOf, concatenated}
 use Rattle.archive.specs.Reading.{misplaced, numberIn, numbersIn, numbersOf}
 use Rattle.archive.proofs.EntryLists.{length-entries, together-all, entries-of-append}
 use Rattle.archive.proofs.Splits.{no-sections}
@@ -81,18 +81,18 @@ cut-sound [] h = record { good = tt; zeros = tt }
 cut-sound (e ∷ es) h = cut-case e (sectionsOf es) (closesMonth e) refl (h .0) (cut-sound es (h .1))
 
 -- and lose nothing
-joined-together : (e : List ℕ) (ss : List (List ℕ)) → together (joined e ss) ≡ e ++ together ss
-unfolding joined together
+joined-together : (e : List ℕ) (ss : List (List ℕ)) → concatenated (joined e ss) ≡ e ++ concatenated ss
+unfolding joined concatenated
 joined-together e [] = refl
-joined-together e (s ∷ ss) = append-assoc e s (together ss)
+joined-together e (s ∷ ss) = append-assoc e s (concatenated ss)
 
-together-case : (e : List ℕ) (ss : List (List ℕ)) (b : Bool) → together (cond b (e ∷ ss) (joined e ss)) ≡ e ++ together ss
-unfolding together
+together-case : (e : List ℕ) (ss : List (List ℕ)) (b : Bool) → concatenated (cond b (e ∷ ss) (joined e ss)) ≡ e ++ concatenated ss
+unfolding concatenated
 together-case e ss true = refl
 together-case e ss false = joined-together e ss
 
-pub together-sections : (es : List (List ℕ)) → together (sectionsOf es) ≡ together es
-unfolding sectionsOf together
+pub together-sections : (es : List (List ℕ)) → concatenated (sectionsOf es) ≡ concatenated es
+unfolding sectionsOf concatenated
 together-sections [] = refl
 together-sections (e ∷ es) = together-case e (sectionsOf es) (closesMonth e) ∙ ap (λ (l : List ℕ). e ++ l) (together-sections es)
 
@@ -106,8 +106,8 @@ last-case e [] false k m = refl
 last-case e (s ∷ ss) false k m = let z : suc (length ss) ≡ 0 = eqb-true (suc (length ss)) 0 (ends-final (eqb (suc (length ss)) 0) e m k) in absurd (omega arith)
 
 -- the entries of a section, then others
-section-first : (e : List ℕ) (es fs ss : List (List ℕ)) → sectionsOf fs ≡ ss → Zeros (numbersIn (eqb (length ss) 0) (e ∷ es)) → sectionsOf ((e ∷ es) ++ fs) ≡ together (e ∷ es) ∷ ss
-unfolding sectionsOf numbersIn together joined
+section-first : (e : List ℕ) (es fs ss : List (List ℕ)) → sectionsOf fs ≡ ss → Zeros (numbersIn (eqb (length ss) 0) (e ∷ es)) → sectionsOf ((e ∷ es) ++ fs) ≡ concatenated (e ∷ es) ∷ ss
+unfolding sectionsOf numbersIn concatenated joined
 section-first e [] fs ss q h =
     let m : misplaced true (eqb (length ss) 0) e ≡ false = number-parts true (eqb (length ss) 0) e (h .0) .1 in
     rw (q, append-nil e) (last-case e ss (closesMonth e) refl m)
@@ -120,19 +120,19 @@ unfolding entriesOf firstEntries
 no-entries = refl
 
 -- the entries of a section are some
-section-then : (s : List ℕ) (fs ss es : List (List ℕ)) → Sized s → entriesOf s ≡ es → sectionsOf fs ≡ ss → Zeros (numbersIn (eqb (length ss) 0) es) → sectionsOf (es ++ fs) ≡ together es ∷ ss
+section-then : (s : List ℕ) (fs ss es : List (List ℕ)) → Sized s → entriesOf s ≡ es → sectionsOf fs ≡ ss → Zeros (numbersIn (eqb (length ss) 0) es) → sectionsOf (es ++ fs) ≡ concatenated es ∷ ss
 section-then s fs ss [] g e q h = absurd (omega (arith, count-entries s, ap length e))
 section-then s fs ss (f ∷ es) g e q h = section-first f es fs ss q h
 
 -- sections that the reader finds right are those of their entries
-pub sections-again : (ss : List (List ℕ)) → Good ss → Zeros (numbersOf ss) → sectionsOf (entriesOf (together ss)) ≡ ss
-unfolding together numbersOf
+pub sections-again : (ss : List (List ℕ)) → Good ss → Zeros (numbersOf ss) → sectionsOf (entriesOf (concatenated ss)) ≡ ss
+unfolding concatenated numbersOf
 sections-again [] g h = no-sections [] refl
 sections-again (s ∷ ss) g h =
     let here : Zeros (numbersIn (eqb (length ss) 0) (entriesOf s)) = zeros-left (numbersIn (eqb (length ss) 0) (entriesOf s)) (numbersOf ss) h in
-    let rest : sectionsOf (entriesOf (together ss)) ≡ ss = sections-again ss (g .1) (zeros-right (numbersIn (eqb (length ss) 0) (entriesOf s)) (numbersOf ss) h) in
-    ap sectionsOf (entries-of-append s (together ss) (g .0 .whole))
-    ∙ section-then s (entriesOf (together ss)) ss (entriesOf s) (g .0) refl rest here
+    let rest : sectionsOf (entriesOf (concatenated ss)) ≡ ss = sections-again ss (g .1) (zeros-right (numbersIn (eqb (length ss) 0) (entriesOf s)) (numbersOf ss) h) in
+    ap sectionsOf (entries-of-append s (concatenated ss) (g .0 .whole))
+    ∙ section-then s (entriesOf (concatenated ss)) ss (entriesOf s) (g .0) refl rest here
     ∙ ap (λ (l : List ℕ). l ∷ ss) (together-all s (g .0 .whole))
 
 forms-in : (final : Bool) (es : List (List ℕ)) → Zeros (numbersIn final es) → Zeros (map formNumber es)
@@ -141,17 +141,17 @@ forms-in final [] h = tt
 forms-in final (e ∷ es) h = (number-parts (eqb (length es) 0) final e (h .0) .0, forms-in final es (h .1))
 
 -- and these are of the right form
-pub forms-right : (ss : List (List ℕ)) → Good ss → Zeros (numbersOf ss) → Zeros (map formNumber (entriesOf (together ss)))
-unfolding together numbersOf
+pub forms-right : (ss : List (List ℕ)) → Good ss → Zeros (numbersOf ss) → Zeros (map formNumber (entriesOf (concatenated ss)))
+unfolding concatenated numbersOf
 forms-right [] g h = rw no-entries tt
 forms-right (s ∷ ss) g h =
     let final : Bool = eqb (length ss) 0 in
-    rw (entries-of-append s (together ss) (g .0 .whole), map-append)
-    (zeros-append (map formNumber (entriesOf s)) (map formNumber (entriesOf (together ss))) (forms-in final (entriesOf s) (zeros-left (numbersIn final (entriesOf s)) (numbersOf ss) h))
+    rw (entries-of-append s (concatenated ss) (g .0 .whole), map-append)
+    (zeros-append (map formNumber (entriesOf s)) (map formNumber (entriesOf (concatenated ss))) (forms-in final (entriesOf s) (zeros-left (numbersIn final (entriesOf s)) (numbersOf ss) h))
     (forms-right ss (g .1) (zeros-right (numbersIn final (entriesOf s)) (numbersOf ss) h)))
 
 -- their bytes are whole entries
-pub together-whole : (ss : List (List ℕ)) → Good ss → length (together ss) % 32 ≡ 0
-unfolding together
+pub together-whole : (ss : List (List ℕ)) → Good ss → length (concatenated ss) % 32 ≡ 0
+unfolding concatenated
 together-whole [] g = refl
 together-whole (s ∷ ss) g = rw length-append (omega (arith, together-whole ss (g .1), g .0 .whole))

@@ -7,7 +7,7 @@ use mathlib.Core.List.{List, [], _∷_, append-nil}
 use lib.ListN.{length, getD, take, drop, length-drop}
 use lib.Seq.{length-take-le, take-all, drop-drop}
 use Rattle.archive.specs.Entries.{firstEntries, entriesOf, closesMonth}
-use Rattle.archive.specs.Layout.{joined, sectionsOf, together}
+use Rattle.archive.specs.Layout.{joined, sectionsOf, concatenated}
 use Rattle.archive.proofs.EntryLists.{entries-next, entries-none, take-entries, drop-entries, together-entries, length-entries}
 
 -- how many entries the first section has
@@ -34,22 +34,22 @@ lead-positive e es = go (closesMonth e)
 
 -- the first section, and the rest
 abbrev Parted : List (List ℕ) → Type 0
-Parted es = sectionsOf es ≡ together (take (lead es) es) ∷ sectionsOf (drop (lead es) es)
+Parted es = sectionsOf es ≡ concatenated (take (lead es) es) ∷ sectionsOf (drop (lead es) es)
 
-alone : (e : List ℕ) (b : Bool) → cond b (e ∷ []) (e ∷ []) ≡ together (take (cond b 1 1) (e ∷ [])) ∷ sectionsOf (drop (cond b 1 1) (e ∷ []))
-unfolding sectionsOf together
+alone : (e : List ℕ) (b : Bool) → cond b (e ∷ []) (e ∷ []) ≡ concatenated (take (cond b 1 1) (e ∷ [])) ∷ sectionsOf (drop (cond b 1 1) (e ∷ []))
+unfolding sectionsOf concatenated
 alone e true = rw (append-nil e)
 alone e false = rw (append-nil e)
 
 before : (e f : List ℕ) (fs : List (List ℕ)) (b : Bool) → Parted (f ∷ fs)
     → cond b (e ∷ sectionsOf (f ∷ fs)) (joined e (sectionsOf (f ∷ fs)))
-    ≡ together (take (cond b 1 (1 + lead (f ∷ fs))) (e ∷ f ∷ fs)) ∷ sectionsOf (drop (cond b 1 (1 + lead (f ∷ fs))) (e ∷ f ∷ fs))
-unfolding together joined
+    ≡ concatenated (take (cond b 1 (1 + lead (f ∷ fs))) (e ∷ f ∷ fs)) ∷ sectionsOf (drop (cond b 1 (1 + lead (f ∷ fs))) (e ∷ f ∷ fs))
+unfolding concatenated joined
 before e f fs true h = rw (append-nil e)
 before e f fs false h = let j : 1 + lead (f ∷ fs) ≡ suc (lead (f ∷ fs)) = omega arith in rw (j, h)
 
 first-then-rest : (e : List ℕ) (es : List (List ℕ)) → Parted (e ∷ es)
-unfolding sectionsOf joined together lead
+unfolding sectionsOf joined concatenated lead
 first-then-rest e [] = alone e (closesMonth e)
 first-then-rest e (f ∷ fs) = before e f fs (closesMonth e) (first-then-rest f fs)
 
@@ -67,14 +67,14 @@ module _ (n : ℕ) (s : List ℕ) (h : length s ≡ 32 * suc n) where
   lead-within : lead es ≤ suc n
   lead-within = omega (arith, lead-le es, length-entries (suc n) s)
 
-  in-entries : sectionsOf es ≡ together (take (lead es) es) ∷ sectionsOf (drop (lead es) es)
+  in-entries : sectionsOf es ≡ concatenated (take (lead es) es) ∷ sectionsOf (drop (lead es) es)
   unfolding firstEntries
   in-entries = first-then-rest (take 32 s) (firstEntries n (drop 32 s))
 
   in-bytes : sectionsOf es ≡ take (32 * lead es) s ∷ sectionsOf (firstEntries (suc n - lead es) (drop (32 * lead es) s))
   in-bytes =
       in-entries
-      ∙ ap (λ x. together x ∷ sectionsOf (drop (lead es) es)) (take-entries (lead es) (suc n) s lead-within)
+      ∙ ap (λ x. concatenated x ∷ sectionsOf (drop (lead es) es)) (take-entries (lead es) (suc n) s lead-within)
       ∙ ap (λ x. x ∷ sectionsOf (drop (lead es) es)) (together-entries (lead es) s)
       ∙ ap (λ x. take (32 * lead es) s ∷ sectionsOf x) (drop-entries (lead es) (suc n) s lead-within)
 

@@ -7,7 +7,7 @@ use mathlib.Core.Bool.{true}
 use mathlib.Core.List.{List, [], _∷_, _++_, map, append-assoc}
 use lib.ListN.{length, getD, take, drop, length-drop, length-append, take-append-drop, drop-of-length-le}
 use lib.Seq.{length-take-le, drop-drop, take-at, drop-at}
-use Rattle.archive.specs.Layout.{together}
+use Rattle.archive.specs.Layout.{concatenated}
 use Rattle.archive.specs.Reading.{Pair, pairAt, pairsFrom, rightLength, rightPairs, partAt}
 use Rattle.archive.proofs.Pairs.{right-start, right-length, right-rest}
 use Rattle.archive.proofs.Partitions.{Good}
@@ -15,19 +15,19 @@ use Rattle.archive.proofs.Directories.{pairsFor}
 
 -- ---- the pairs of good sections are right, and their parts are the sections
 
-pub right-for : (ss : List (List ℕ)) (off end : ℕ) → Good ss → off + length (together ss) ≡ end → rightPairs end off (pairsFor off ss) ≡ true
-unfolding rightPairs rightLength pairsFor together
+pub right-for : (ss : List (List ℕ)) (off end : ℕ) → Good ss → off + length (concatenated ss) ≡ end → rightPairs end off (pairsFor off ss) ≡ true
+unfolding rightPairs rightLength pairsFor concatenated
 right-for [] off end g e = eq-eqb off end (omega arith)
 right-for (s ∷ ss) off end g e =
     rw (eq-eqb off off refl, lt-ltb 0 (length s) (g .0 .some), eq-eqb (length s % 32) 0 (g .0 .whole))
-    (right-for ss (off + length s) end (g .1) (omega (arith, length-append s (together ss))))
+    (right-for ss (off + length s) end (g .1) (omega (arith, length-append s (concatenated ss))))
 
-pub parts-for : (ss : List (List ℕ)) (a before : List ℕ) (off : ℕ) → a ≡ before ++ together ss → length before ≡ off → map (partAt a) (pairsFor off ss) ≡ ss
-unfolding pairsFor together partAt
+pub parts-for : (ss : List (List ℕ)) (a before : List ℕ) (off : ℕ) → a ≡ before ++ concatenated ss → length before ≡ off → map (partAt a) (pairsFor off ss) ≡ ss
+unfolding pairsFor concatenated partAt
 parts-for [] a before off e h = refl
 parts-for (s ∷ ss) a before off e h =
-    let here : take (length s) (drop off a) ≡ s = rw (e, drop-at before (s ++ together ss) off h) (take-at s (together ss) (length s) refl) in
-    let next : a ≡ before ++ s ++ together ss = e ∙ sym (append-assoc before s (together ss)) in
+    let here : take (length s) (drop off a) ≡ s = rw (e, drop-at before (s ++ concatenated ss) off h) (take-at s (concatenated ss) (length s) refl) in
+    let next : a ≡ before ++ s ++ concatenated ss = e ∙ sym (append-assoc before s (concatenated ss)) in
     rw here (ap (λ r. s ∷ r) (parts-for ss a (before ++ s) (off + length s) next (rw length-append (omega arith))))
 
 -- part i, of n parts from pair j on
@@ -42,11 +42,11 @@ part-at a (suc n) j (suc i) h = let k : j + suc i ≡ j + 1 + i = omega arith in
 pub record Parted (a : List ℕ) (off : ℕ) (ps : List Pair) : Type 0 where
   pub named : ps ≡ pairsFor off (map (partAt a) ps)
   pub good : Good (map (partAt a) ps)
-  pub all : together (map (partAt a) ps) ≡ drop off a
+  pub all : concatenated (map (partAt a) ps) ≡ drop off a
   pub within : off ≤ length a
 
 one-more : (a : List ℕ) (p : Pair) (ps : List Pair) → (0 < p .1) × (p .1 % 32 ≡ 0) → Parted a (p .0 + p .1) ps → Parted a (p .0) (p ∷ ps)
-unfolding pairsFor together partAt
+unfolding pairsFor concatenated partAt
 one-more a p ps h t =
     let size : length (partAt a p) ≡ p .1 = length-take-le (p .1) (drop (p .0) a) (rw length-drop (omega (arith, t .within))) in
     record {
@@ -57,7 +57,7 @@ one-more a p ps h t =
     }
 
 pub parted : (a : List ℕ) (ps : List Pair) (off : ℕ) → rightPairs (length a) off ps ≡ true → Parted a off ps
-unfolding rightPairs pairsFor together
+unfolding rightPairs pairsFor concatenated
 parted a [] off h =
     let e : off ≡ length a = eqb-true off (length a) h in
     record { named = refl; good = tt; all = sym (drop-of-length-le a {i = off} (omega arith)); within = omega arith }

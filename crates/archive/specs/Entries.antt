@@ -4,6 +4,7 @@ use mathlib.Core.Bool.{Bool, cond}
 use mathlib.Core.List.{List, [], _∷_}
 use lib.Dec.{eqb}
 use lib.ListN.{length, take, drop}
+use Rattle.ledger.specs.Kinds.{CLOSE-MONTH}
 use Rattle.ledger.specs.Entries.{entryOf}
 use Rattle.archive.specs.declared.entries.Checked.{Checked}
 
@@ -15,9 +16,9 @@ firstEntries (suc n) bytes = take 32 bytes ∷ firstEntries n (drop 32 bytes)
 unfoldable pub entriesOf : List ℕ → List (List ℕ)
 entriesOf bytes = firstEntries (length bytes / 32) bytes
 
--- kind 9, CLOSE MONTH
+-- an entry that closes a month ends its section
 unfoldable pub closesMonth : List ℕ → Bool
-closesMonth entry = eqb (entryOf entry .kind) 9
+closesMonth entry = eqb (entryOf entry .kind) CLOSE-MONTH
 
 -- a number, and the index of the entry that it is about
 unfoldable pub finding : ℕ → ℕ → Checked

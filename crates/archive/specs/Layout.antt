@@ -19,18 +19,25 @@ sectionsOf [] = []
 sectionsOf (e ∷ es) = cond (closesMonth e) (e ∷ sectionsOf es) (joined e (sectionsOf es))
 
 -- the sections one after the other
-unfoldable pub together : List (List ℕ) → List ℕ
-together [] = []
-together (s ∷ ss) = s ++ together ss
+unfoldable pub concatenated : List (List ℕ) → List ℕ
+concatenated [] = []
+concatenated (s ∷ ss) = s ++ concatenated ss
 
 -- ---- the bytes of an archive
 
+abbrev pub mostSections : ℕ
+mostSections = 1200
+
+-- the largest number of four bytes, so that every offset and the file's end have room in a pair
+abbrev pub mostBytes : ℕ
+mostBytes = 4294967295
+
 -- "EFB1"
-abbrev pub opening : List ℕ
-opening = 69 ∷ 70 ∷ 66 ∷ 49 ∷ []
+abbrev pub openingBytes : List ℕ
+openingBytes = 69 ∷ 70 ∷ 66 ∷ 49 ∷ []
 
 unfoldable pub header : ℕ → List ℕ
-header count = opening ++ bytesOf 2 count ++ 0 ∷ 0 ∷ []
+header count = openingBytes ++ bytesOf 2 count ++ 0 ∷ 0 ∷ []
 
 -- "each next one the former end": a pair for each section, the first beginning at an offset
 unfoldable pub directory : ℕ → List (List ℕ) → List ℕ
@@ -42,7 +49,7 @@ unfoldable pub bodyAt : ℕ → ℕ
 bodyAt count = 8 + 8 * count
 
 unfoldable pub packed : List (List ℕ) → List ℕ
-packed ss = header (length ss) ++ directory (bodyAt (length ss)) ss ++ together ss
+packed ss = header (length ss) ++ directory (bodyAt (length ss)) ss ++ concatenated ss
 
 -- the archive of a list of entries
 unfoldable pub archiveOf : List ℕ → List ℕ

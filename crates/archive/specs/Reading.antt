@@ -5,9 +5,9 @@ use mathlib.Core.List.{List, [], _∷_, _++_, map}
 use lib.Dec.{eqb, ltb}
 use lib.ListN.{length, getD, take, drop}
 use Rattle.ledger.specs.Entries.{formNumber}
-use Rattle.archive.specs.Words.{halfAt, wordAt}
+use Rattle.ledger.specs.Entries.{halfAt, wordAt}
 use Rattle.archive.specs.Entries.{entriesOf, closesMonth, finding, firstRefusal}
-use Rattle.archive.specs.Layout.{opening, bodyAt}
+use Rattle.archive.specs.Layout.{mostBytes, mostSections, openingBytes, bodyAt}
 use Rattle.archive.specs.declared.entries.Checked.{Checked}
 use Rattle.archive.specs.declared.reading.Place.{Place}
 
@@ -18,19 +18,19 @@ sectionCount a = halfAt a 4
 
 unfoldable pub rightOpening : List ℕ → Bool
 rightOpening a =
-    eqb (getD a 0 0) (getD opening 0 0)
-    && eqb (getD a 1 0) (getD opening 1 0)
-    && eqb (getD a 2 0) (getD opening 2 0)
-    && eqb (getD a 3 0) (getD opening 3 0)
+    eqb (getD a 0 0) (getD openingBytes 0 0)
+    && eqb (getD a 1 0) (getD openingBytes 1 0)
+    && eqb (getD a 2 0) (getD openingBytes 2 0)
+    && eqb (getD a 3 0) (getD openingBytes 3 0)
 
 unfoldable pub wrongHeader : List ℕ → Bool
 wrongHeader a =
     ltb (length a) 8
-    || ltb 4294967295 (length a)
+    || ltb mostBytes (length a)
     || not (rightOpening a)
     || not (eqb (getD a 6 0) 0)
     || not (eqb (getD a 7 0) 0)
-    || ltb 1200 (sectionCount a)
+    || ltb mostSections (sectionCount a)
     || ltb (length a) (bodyAt (sectionCount a))
 
 -- ---- 9: "directory pair or file end wrong"

@@ -4,7 +4,7 @@ use mathlib.Core.Path.{_≡_}
 use mathlib.Core.List.{List, []}
 use lib.ListN.{length, getD}
 use Rattle.archive.specs.Entries.{entriesOf, finding}
-use Rattle.archive.specs.Layout.{sectionsOf, together, archiveOf}
+use Rattle.archive.specs.Layout.{mostBytes, sectionsOf, concatenated, archiveOf}
 use Rattle.archive.specs.Writing.{written}
 use Rattle.archive.specs.Reading.{sectionCount, checked, sectionAt, listOf}
 
@@ -18,7 +18,7 @@ pub record Read (list : List ℕ) : Type 0 where
   pub whole : listOf (archiveOf list) ≡ list
   pub count : sectionCount (archiveOf list) ≡ length (sectionsOf (entriesOf list))
   pub sections : (i : ℕ) → i < length (sectionsOf (entriesOf list)) → sectionAt (archiveOf list) i ≡ getD (sectionsOf (entriesOf list)) i []
-  pub joined : together (sectionsOf (entriesOf list)) ≡ list
+  pub joined : concatenated (sectionsOf (entriesOf list)) ≡ list
 
 abbrev pub ReadsBack : Type 0
 ReadsBack = (list : List ℕ) (room : ℕ) → written list room .number ≡ 0 → Read list
@@ -27,7 +27,7 @@ ReadsBack = (list : List ℕ) (room : ℕ) → written list room .number ≡ 0 �
 pub record Remade (a : List ℕ) : Type 0 where
   pub same : archiveOf (listOf a) ≡ a
   pub answer : (room : ℕ) → length a ≤ room → written (listOf a) room ≡ record { number = 0; index = 0; length = length a }
-  pub fits : length a ≤ 4294967295
+  pub fits : length a ≤ mostBytes
 
 abbrev pub WritesBack : Type 0
 WritesBack = (a : List ℕ) → Bytes a → checked a .number ≡ 0 → Remade a

@@ -6,7 +6,7 @@ use lib.Dec.{eqb, ltb}
 use lib.ListN.{length, drop}
 use Rattle.ledger.specs.Entries.{formNumber}
 use Rattle.archive.specs.Entries.{entriesOf, firstRefusal}
-use Rattle.archive.specs.Layout.{sectionsOf, archiveOf}
+use Rattle.archive.specs.Layout.{mostBytes, mostSections, sectionsOf, archiveOf}
 use Rattle.archive.specs.declared.entries.Checked.{Checked}
 use Rattle.archive.specs.declared.writing.Written.{Written}
 
@@ -16,7 +16,7 @@ listChecked list = firstRefusal 0 (map formNumber (entriesOf list))
 
 -- "over 1,200 sections or 2^32 − 1 bytes"
 unfoldable pub tooLarge : List ℕ → Bool
-tooLarge list = ltb 1200 (length (sectionsOf (entriesOf list))) || ltb 4294967295 (length (archiveOf list))
+tooLarge list = ltb mostSections (length (sectionsOf (entriesOf list))) || ltb mostBytes (length (archiveOf list))
 
 unfoldable pub unwritten : ℕ → ℕ → Written
 unwritten number index = record { number = number; index = index; length = 0 }

@@ -25,11 +25,11 @@ upTo (suc n) f = f 0 ∷ upTo n (λ i. f (suc i))
 unfoldable pub grid : (ℕ → ℕ → Units) → List (List Units)
 grid f = upTo 16 (λ i. upTo 12 (λ m. f i m))
 
-unfoldable pub nothing : Units
-nothing = record { 0 = pos 0 }
+unfoldable pub noBank : Units
+noBank = record { 0 = pos 0 }
 
 unfoldable pub cellAt : List (List Units) → ℕ → ℕ → Units
-cellAt sheet i m = getD (getD sheet i []) m nothing
+cellAt sheet i m = getD (getD sheet i []) m noBank
 
 -- an account's bank; "An account not open" has 0
 unfoldable pub bankIn : Ledger → ℕ → Units
@@ -51,4 +51,4 @@ cellAfter y i m x l (e ∷ es) =
     cellAfter y i m (cond (closesIn y m (posted l e .answer .number) e) (bankIn (posted l e .ledger) i) x) (posted l e .ledger) es
 
 unfoldable pub sheetOf : List ℕ → ℕ → List (List Units)
-sheetOf a y = grid (λ i m. cellAfter y i m nothing fresh (entriesIn a))
+sheetOf a y = grid (λ i m. cellAfter y i m noBank fresh (entriesIn a))

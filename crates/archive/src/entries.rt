@@ -12,12 +12,15 @@ pub struct Checked {
     pub index: usize,
 }
 
-// Whether an entry is of kind 9.
+// CLOSE MONTH, as the byte that an entry begins with.
+const CLOSE_MONTH: u8 = 9;
+
+// Whether an entry closes a month, and so ends its section.
 pub fn closes_month(entry: &[u8]) -> bool
     requires { ⌜ 0 < length (now entry) ⌝ }
     ensures { λ r. ⌜ r ≡ closesMonth (now (entry .entry)) ⌝ }
 {
-    entry[0] == 9
+    entry[0] == CLOSE_MONTH
 }
 
 // The first entry of a list that gets a number by itself.

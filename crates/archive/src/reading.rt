@@ -8,6 +8,8 @@ ghost use Rattle.archive.specs.Reading.{sectionCount, rightOpening, wron
 ghost use Rattle.archive.specs.Replay.{listIn};
 use crate::entries::Checked;
 use crate::entries::closes_month;
+use crate::sections::MOST_BYTES;
+use crate::sections::MOST_SECTIONS;
 use crate::words::half;
 use crate::words::word;
 
@@ -55,11 +57,11 @@ pub fn wrong_header(archive: &[u8]) -> bool
         return true;
     }
     let count = section_count(archive);
-    (4294967295 < n)
+    (MOST_BYTES < n)
         | !right_opening(archive)
         | !(archive[6] == 0)
         | !(archive[7] == 0)
-        | (1200 < count)
+        | (MOST_SECTIONS < count)
         | (n < 8 + 8 * count)
 }
 

@@ -7,6 +7,10 @@ ghost use Rattle.archive.specs.Entries.{entriesOf};
 ghost use Rattle.archive.specs.Layout.{sectionsOf};
 use crate::entries::closes_month;
 
+pub const MOST_SECTIONS: usize = 1200;
+
+pub const MOST_BYTES: usize = 4294967295;
+
 // How many bytes the first section has.
 pub fn first_section(list: &[u8]) -> usize
     requires { ⌜ length (now list) % 32 ≡ 0 ⌝ }

@@ -7,7 +7,7 @@ ghost use lib.ListN.{length};
 ghost use Rattle.ledger.specs.Entries.{entryOf};
 ghost use Rattle.ledger.specs.State.{fresh};
 ghost use Rattle.archive.specs.Entries.{entriesOf};
-ghost use Rattle.archive.specs.YearSheet.{grid, nothing, cellAt, bankIn, inGasYear, closesIn, cellAfter};
+ghost use Rattle.archive.specs.YearSheet.{grid, noBank, cellAt, bankIn, inGasYear, closesIn, cellAfter};
 use crate::entries::closes_month;
 use crate::words::half;
 use ledger::Ledger;
@@ -15,7 +15,7 @@ use tariff::amounts::Units;
 use tariff::months::Month;
 
 pub fn empty_sheet() -> [[Units; 12]; 16]
-    ensures { λ r. ⌜ r ≡ grid (λ i m. nothing) ⌝ }
+    ensures { λ r. ⌜ r ≡ grid (λ i m. noBank) ⌝ }
 {
     [[Units(0); 12]; 16]
 }
@@ -52,7 +52,7 @@ fn with_column(sheet: [[Units; 12]; 16], ledger: Ledger, month: usize) -> [[Unit
 
 // The sheet of a list of entries posted to a fresh ledger.
 pub fn sheet_of(list: &[u8], year: u64) -> [[Units; 12]; 16]
-    ensures { λ r. ⌜ r ≡ grid (λ i m. cellAfter year i m nothing fresh (entriesOf (now (list .entry)))) ⌝ }
+    ensures { λ r. ⌜ r ≡ grid (λ i m. cellAfter year i m noBank fresh (entriesOf (now (list .entry)))) ⌝ }
 {
     let n = list.len() / 32;
     let mut ledger = ledger::fresh();

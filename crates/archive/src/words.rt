@@ -3,7 +3,8 @@ ghost use mathlib.Core.Path.{_≡_};
 ghost use Prim.Native.Nat.{_+_, _<_, _≤_};
 ghost use lib.ListN.{length};
 ghost use lib.Seq.{paste};
-ghost use Rattle.archive.specs.Words.{bytesOf, halfAt, wordAt};
+ghost use Rattle.ledger.specs.Entries.{halfAt, wordAt};
+ghost use Rattle.archive.specs.Words.{bytesOf};
 
 fn wide(b: u8) -> usize
     ensures { λ r. ⌜ (r ≡ b) × (r < 256) ⌝ }

@@ -5,9 +5,11 @@ ghost use Prim.Native.Nat.{_+_, _*_, _%_, _≤_};
 ghost use lib.ListN.{length, drop};
 ghost use lib.Seq.{paste};
 ghost use Rattle.archive.specs.Entries.{entriesOf};
-ghost use Rattle.archive.specs.Layout.{sectionsOf, header, directory, bodyAt, archiveOf};
+ghost use Rattle.archive.specs.Layout.{mostBytes, mostSections, sectionsOf, header, directory, bodyAt, archiveOf};
 ghost use Rattle.archive.specs.Writing.{unwritten, written};
 use crate::entries::check_list;
+use crate::sections::MOST_BYTES;
+use crate::sections::MOST_SECTIONS;
 use crate::sections::count_sections;
 use crate::sections::first_section;
 use crate::words::put_word;
@@ -43,14 +45,14 @@ pub fn plan(list: &[u8], room: usize) -> Written
         return unwritten(c.number, c.index);
     }
     let count = count_sections(list);
-    if 1200 < count {
+    if MOST_SECTIONS < count {
         return unwritten(11, 0);
     }
-    if 4294967295 < n {
+    if MOST_BYTES < n {
         return unwritten(11, 0);
     }
     let length = 8 + 8 * count + n;
-    if 4294967295 < length {
+    if MOST_BYTES < length {
         return unwritten(11, 0);
     }
     if room < length {
@@ -79,7 +81,7 @@ fn put_header(out: &mut [u8], count: usize)
 
 // A pair for each section.
 fn put_directory(out: &mut [u8], list: &[u8], count: usize)
-    requires { ⌜ (length (now list) % 32 ≡ 0) × (count ≡ length (sectionsOf (entriesOf (now list)))) × (count ≤ 1200) × (length (now list) ≤ 4294967295) × (8 + 8 * count ≤ length (now out)) ⌝ }
+    requires { ⌜ (length (now list) % 32 ≡ 0) × (count ≡ length (sectionsOf (entriesOf (now list)))) × (count ≤ mostSections) × (length (now list) ≤ mostBytes) × (8 + 8 * count ≤ length (now out)) ⌝ }
     ensures { λ _. ⌜ now (out .exit) ≡ paste (now (out .entry)) 8 (directory (bodyAt count) (sectionsOf (entriesOf (now (list .entry))))) (8 * count) ⌝ }
 {
     let n = list.len();

@@ -8,6 +8,7 @@ use lib.Dec.{eqb}
 use lib.IntN.{ℤ, pos, _+ℤ_, _-ℤ_}
 use lib.ListN.{getD}
 use Rattle.tariff.specs.Amounts.{inward, outward}
+use Rattle.ledger.specs.Kinds.{TERMS, ENROL, DELIVER, TRANSFER, TRADE, CLOSE-DAY, CLOSE-MONTH}
 use Rattle.ledger.specs.Entries.{entryOf, companySells}
 use Rattle.ledger.specs.State.{fresh, accountAt}
 use Rattle.ledger.specs.Answers.{quiet}
@@ -37,7 +38,7 @@ unfoldable pub start : Known
 start = record { retainage = 0 }
 
 unfoldable pub after : Known → Line → Known
-after k x = record { retainage = cond (eqb (entry x .kind) 1) (entry x .w4) (k .retainage) }
+after k x = record { retainage = cond (eqb (entry x .kind) TERMS) (entry x .w4) (k .retainage) }
 
 -- ---- a term: what one accepted posting counts, by what is known when it comes
 
@@ -60,30 +61,30 @@ byB kind i x = eqb (entry x .kind) kind && eqb (entry x .b) i
 
 -- ENROL opens the account with w2 in its bank
 unfoldable pub openedWith : ℕ → Term
-openedWith i k x = cond (byA 2 i x) (pos (entry x .w2)) (pos 0)
+openedWith i k x = cond (byA ENROL i x) (pos (entry x .w2)) (pos 0)
 
 -- DELIVER brings its amount under the R then known, rounded by itself
 unfoldable pub deliveredTo : ℕ → Term
-deliveredTo i k x = cond (byA 3 i x) (amountUnder (k .retainage) (entry x) .0) (pos 0)
+deliveredTo i k x = cond (byA DELIVER i x) (amountUnder (k .retainage) (entry x) .0) (pos 0)
 
 -- TRADE: the company sells w1 to the account, or buys w1 from it
 unfoldable pub soldTo : ℕ → Term
-soldTo i k x = cond (byA 5 i x && companySells (entry x)) (pos (entry x .w1)) (pos 0)
+soldTo i k x = cond (byA TRADE i x && companySells (entry x)) (pos (entry x .w1)) (pos 0)
 
 unfoldable pub boughtFrom : ℕ → Term
-boughtFrom i k x = cond (byA 5 i x && not (companySells (entry x))) (pos (entry x .w1)) (pos 0)
+boughtFrom i k x = cond (byA TRADE i x && not (companySells (entry x))) (pos (entry x .w1)) (pos 0)
 
 -- TRANSFER: w1 comes to B and goes from A
 unfoldable pub transferredTo : ℕ → Term
-transferredTo i k x = cond (byB 4 i x) (pos (entry x .w1)) (pos 0)
+transferredTo i k x = cond (byB TRANSFER i x) (pos (entry x .w1)) (pos 0)
 
 unfoldable pub transferredFrom : ℕ → Term
-transferredFrom i k x = cond (byA 4 i x) (pos (entry x .w1)) (pos 0)
+transferredFrom i k x = cond (byA TRANSFER i x) (pos (entry x .w1)) (pos 0)
 
 -- ---- and from the answers to CLOSE DAY and CLOSE MONTH; no other kind reports anything that counts
 
 unfoldable pub closes : Line → Bool
-closes x = eqb (entry x .kind) 8 || eqb (entry x .kind) 9
+closes x = eqb (entry x .kind) CLOSE-DAY || eqb (entry x .kind) CLOSE-MONTH
 
 unfoldable pub reported : ℕ → Line → Report
 reported i x = cond (closes x) (getD (x .answer .reports) i quiet) quiet
@@ -187,5 +188,5 @@ StrikingChangesNothing =
 
 abbrev pub OnlyClosingsCount : Type 0
 OnlyClosingsCount =
-    (i : ℕ) (k : Known) (x : Line) → (entry x .kind ≡ 8 → ⊥) → (entry x .kind ≡ 9 → ⊥)
+    (i : ℕ) (k : Known) (x : Line) → (entry x .kind ≡ CLOSE-DAY → ⊥) → (entry x .kind ≡ CLOSE-MONTH → ⊥)
     → (cashedIn i k x ≡ pos 0) × (cashedOut i k x ≡ pos 0) × (forfeited i k x ≡ pos 0) × (billed i k x ≡ pos 0) × (violated i k x ≡ pos 0)

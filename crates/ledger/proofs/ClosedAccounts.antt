@@ -13,7 +13,7 @@ use Rattle.tariff.proofs.Laws.{sum-value, less-value, added-value, in-and-out, 
 use Rattle.ledger.specs.Entries.{pricesOf}
 use Rattle.ledger.specs.State.{nobody, accountAt, withBank, withCapacity, withCarry, withDays, withExcuse, withMeasure, withMonth, withToday, withTotals}
 use Rattle.ledger.specs.Answers.{quiet}
-use Rattle.ledger.specs.Closing.{violationsOf, cashAt, dayEnd, dayClosed, forfeitAt, billAt, monthEnd, monthClosed, closedDay, closedMonth, notOpen, closedAccount, accountClosed, reportOf, closed}
+use Rattle.ledger.specs.Closing.{violationsOf, cashAt, dayEnd, afterDay, forfeitAt, billAt, monthEnd, afterMonth, dayClosing, monthClosing, notOpen, closingOf, afterClosing, reportOf, closed}
 use Rattle.ledger.specs.Panel.{openBank}
 use Rattle.ledger.specs.declared.state.Account.{Account}
 use Rattle.ledger.specs.declared.state.Ledger.{Ledger}
@@ -91,8 +91,8 @@ module _ (t : Terms) (e : Entry) (a : Account) where
       grows (a .opened) (pos (a .«violation_days» + cond (eqb mask 0) 0 1)) (pos (a .«violation_days»)) (cond (eqb mask 0) (pos 0) (pos 1)) o
       (day-more (eqb mask 0) (a .«violation_days»))
 
-  of-day : a .opened ≡ true → Accounted a (closedDay (e .date) a)
-  unfolding closedDay dayClosed dayEnd withToday withDays withExcuse withTotals withMonth withBank openBank
+  of-day : a .opened ≡ true → Accounted a (dayClosing (e .date) a)
+  unfolding dayClosing afterDay dayEnd withToday withDays withExcuse withTotals withMonth withBank openBank
   of-day o =
       record {
         bank =
@@ -103,13 +103,13 @@ module _ (t : Terms) (e : Entry) (a : Account) where
       }
 
   abbrev c : Account
-  c = dayClosed (e .date) a
+  c = afterDay (e .date) a
 
   abbrev forfeit : ℤ
   forfeit = pos (forfeitAt (e .date) t c .0)
 
-  of-month : a .opened ≡ true → Accounted a (closedMonth (e .date) t (pricesOf e) a)
-  unfolding closedMonth monthClosed monthEnd withCarry withCapacity withMeasure dayClosed dayEnd withToday withDays withExcuse withTotals withMonth withBank openBank
+  of-month : a .opened ≡ true → Accounted a (monthClosing (e .date) t (pricesOf e) a)
+  unfolding monthClosing afterMonth monthEnd withCarry withCapacity withMeasure afterDay dayEnd withToday withDays withExcuse withTotals withMonth withBank openBank
   of-month o =
       record {
         bank =
@@ -123,11 +123,11 @@ module _ (t : Terms) (e : Entry) (a : Account) where
         days = more-days o;
       }
 
-  pub accounted : Accounted a (closedAccount t e a)
-  unfolding closedAccount
+  pub accounted : Accounted a (closingOf t e a)
+  unfolding closingOf
   accounted = go (a .opened) (eqb (e .kind) 9) refl
     where
-      go : (o k : Bool) → a .opened ≡ o → Accounted a (cond o (cond k (closedMonth (e .date) t (pricesOf e) a) (closedDay (e .date) a)) (notOpen a))
+      go : (o k : Bool) → a .opened ≡ o → Accounted a (cond o (cond k (monthClosing (e .date) t (pricesOf e) a) (dayClosing (e .date) a)) (notOpen a))
       go true true o = of-month o
       go true false o = of-day o
       go false k o = of-not-open o
@@ -135,20 +135,20 @@ module _ (t : Terms) (e : Entry) (a : Account) where
 -- ---- an account of the closed ledger, and what was reported of it
 
 module _ (t : Terms) (e : Entry) where
-  nobody-closed : accountClosed t e nobody ≡ nobody
-  unfolding accountClosed closedAccount notOpen nobody
+  nobody-closed : afterClosing t e nobody ≡ nobody
+  unfolding afterClosing closingOf notOpen nobody
   nobody-closed = refl
 
   nobody-reported : reportOf t e nobody ≡ quiet
-  unfolding reportOf closedAccount notOpen nobody
+  unfolding reportOf closingOf notOpen nobody
   nobody-reported = refl
 
 module _ (l : Ledger) (e : Entry) (i : ℕ) where
-  pub account-closed : accountAt (closed l e .ledger) i ≡ accountClosed (l .terms) e (accountAt l i)
+  pub account-closed : accountAt (closed l e .ledger) i ≡ afterClosing (l .terms) e (accountAt l i)
   unfolding accountAt closed
   account-closed =
-      ap (λ (d : Account). getD (map (accountClosed (l .terms) e) (l .accounts)) i d) (sym (nobody-closed (l .terms) e))
-      ∙ List·getD-map (accountClosed (l .terms) e) (l .accounts) i nobody
+      ap (λ (d : Account). getD (map (afterClosing (l .terms) e) (l .accounts)) i d) (sym (nobody-closed (l .terms) e))
+      ∙ List·getD-map (afterClosing (l .terms) e) (l .accounts) i nobody
 
   pub account-reported : getD (closed l e .answer .reports) i quiet ≡ reportOf (l .terms) e (accountAt l i)
   unfolding accountAt closed

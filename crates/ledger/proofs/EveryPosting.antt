@@ -1,7 +1,6 @@
 -- One posting of any bytes to any sound ledger: the length, what every posting is asked, and then the kind decide which rule it meets, and each rule's step is known.
 use Prim.Native.Nat.{ℕ, _<_, _≤_}
 use mathlib.Core.Path.{_≡_, refl}
-use mathlib.Core.Bool.{true, false}
 use mathlib.Core.List.{List}
 use native.Mathlib.Omega.{arith}
 use lib.Dec.{eqb}
@@ -25,7 +24,7 @@ use Rattle.ledger.specs.Posting.{admission, postSeveral, changeOf, store
 use Rattle.ledger.specs.declared.state.Account.{Account}
 use Rattle.ledger.specs.declared.state.Ledger.{Ledger}
 use Rattle.ledger.specs.declared.entries.Entry.{Entry}
-use Rattle.ledger.specs.declared.answers.Change.{Change}
+use Rattle.ledger.specs.declared.changes.Change.{Change}
 use Rattle.ledger.proofs.RightEntries.{a-fits}
 use Rattle.ledger.proofs.Admitted.{is-right}
 use Rattle.ledger.proofs.KindCases.{done, _then_, each}

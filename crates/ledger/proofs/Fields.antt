@@ -7,16 +7,24 @@ use native.Mathlib.Omega.{arith}
 use lib.Dec.{eqb}
 use lib.ListN.{length, getD}
 use borrow.Author.Tests.{eqb-true}
-use Rattle.ledger.specs.Entries.{byteAt, entryNumber, entryOf, formNumber}
+use Rattle.ledger.specs.Entries.{byteAt, entryNumber, entryOf, formNumber, halfAt, wordAt}
 
 module _ (bytes : List ℕ) where
   pub kind-byte : entryOf bytes .kind ≡ getD bytes 0 0
   unfolding entryOf byteAt
   kind-byte = refl
 
-  pub year-bytes : entryOf bytes .date .year ≡ getD bytes 4 0 + 256 * getD bytes 5 0
-  unfolding entryOf byteAt
-  year-bytes = refl
+  pub half-bytes : (at : ℕ) → halfAt bytes at ≡ getD bytes at 0 + 256 * getD bytes (at + 1) 0
+  unfolding halfAt byteAt
+  half-bytes at = refl
+
+  pub word-bytes : (at : ℕ) → wordAt bytes at ≡ getD bytes at 0 + 256 * (getD bytes (at + 1) 0 + 256 * (getD bytes (at + 2) 0 + 256 * getD bytes (at + 3) 0))
+  unfolding wordAt byteAt
+  word-bytes at = refl
+
+  pub year-half : entryOf bytes .date .year ≡ halfAt bytes 4
+  unfolding entryOf
+  year-half = refl
 
   pub month-byte : entryOf bytes .date .month .0 ≡ getD bytes 6 0
   unfolding entryOf byteAt

@@ -12,7 +12,7 @@ use Rattle.ledger.specs.Panel.{openBank}
 use Rattle.ledger.specs.Ranges.{accountInRange}
 use Rattle.ledger.specs.State.{withBank}
 use Rattle.ledger.specs.declared.state.Account.{Account}
-use Rattle.ledger.specs.declared.answers.Change.{Change}
+use Rattle.ledger.specs.declared.changes.Change.{Change}
 use Rattle.ledger.proofs.Verdicts.{clear}
 use Rattle.ledger.proofs.ClosedAccounts.{openOwed, openDays, grows}
 

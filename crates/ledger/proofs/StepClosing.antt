@@ -17,7 +17,7 @@ use Rattle.ledger.specs.Checks.{verdict}
 use Rattle.ledger.specs.Entries.{entryOf}
 use Rattle.ledger.specs.State.{accountAt}
 use Rattle.ledger.specs.Ranges.{accountInRange, everyAccount, inRange}
-use Rattle.ledger.specs.Closing.{closedAccount, accountClosed, reportOf, staysInRange, closingChecks, closed}
+use Rattle.ledger.specs.Closing.{closingOf, afterClosing, reportOf, staysInRange, closingChecks, closed}
 use Rattle.ledger.specs.Kinds.{lookup}
 use Rattle.ledger.specs.Days.{wrongDay}
 use Rattle.ledger.specs.Posting.{admission}
@@ -40,11 +40,11 @@ or-else true b q = refl
 or-else false b q = q
 
 -- accounts that all stay in range are in range when closed
-closed-ranged : (t : Terms) (e : Entry) (xs : List Account) → everyAccount (staysInRange t e) xs ≡ true → everyAccount accountInRange (map (accountClosed t e) xs) ≡ true
-unfolding everyAccount staysInRange accountClosed
+closed-ranged : (t : Terms) (e : Entry) (xs : List Account) → everyAccount (staysInRange t e) xs ≡ true → everyAccount accountInRange (map (afterClosing t e) xs) ≡ true
+unfolding everyAccount staysInRange afterClosing
 closed-ranged t e [] h = refl
 closed-ranged t e (x ∷ xs) h =
-    rw (and-right (accountInRange (closedAccount t e x .day)) (accountInRange (closedAccount t e x .account)) (and-left (staysInRange t e x) (everyAccount (staysInRange t e) xs) h))
+    rw (and-right (accountInRange (closingOf t e x .day)) (accountInRange (closingOf t e x .account)) (and-left (staysInRange t e x) (everyAccount (staysInRange t e) xs) h))
     (closed-ranged t e xs (and-right (staysInRange t e x) (everyAccount (staysInRange t e) xs) h))
 
 module _ (l : Ledger) (e : Entry) (s : Sound l) (h : admission l e ≡ 0) (c : 8 ≤ e .kind) (d : e .kind ≤ 9) where
@@ -62,15 +62,15 @@ module _ (l : Ledger) (e : Entry) (s : Sound l) (h : admission l e ≡ 0) (c : 8
   begun : l .begun ≡ true
   begun = is-begun l e h (λ z. omega arith)
 
-  report-is : (i : ℕ) → reportAt (e .kind) (closed l e .answer) i ≡ closedAccount (l .terms) e (accountAt l i) .report
+  report-is : (i : ℕ) → reportAt (e .kind) (closed l e .answer) i ≡ closingOf (l .terms) e (accountAt l i) .report
   unfolding reportOf
   report-is i = rw is-closing (account-reported l e i)
 
-  after-is : (i : ℕ) → accountAt (closed l e .ledger) i ≡ closedAccount (l .terms) e (accountAt l i) .account
-  unfolding accountClosed
+  after-is : (i : ℕ) → accountAt (closed l e .ledger) i ≡ closingOf (l .terms) e (accountAt l i) .account
+  unfolding afterClosing
   after-is i = account-closed l e i
 
-  gain-is : (i : ℕ) → gainAt (e .kind) l e (closed l e .answer) i ≡ reportMoves (closedAccount (l .terms) e (accountAt l i) .report)
+  gain-is : (i : ℕ) → gainAt (e .kind) l e (closed l e .answer) i ≡ reportMoves (closingOf (l .terms) e (accountAt l i) .report)
   unfolding reportOf
   gain-is i = rw (isnt 2 (omega arith), isnt 3 (omega arith), isnt 4 (omega arith), isnt 5 (omega arith), is-closing) (ap reportMoves (account-reported l e i))
 
@@ -96,7 +96,7 @@ module _ (l : Ledger) (e : Entry) (s : Sound l) (h : admission l e ≡ 0) (c : 8
   next-ranged : verdict (closingChecks l e) ≡ 0 → inRange (closed l e .ledger) ≡ true
   unfolding inRange closed closingChecks
   next-ranged o =
-      both (not (l .begun) || (real (dayAfter (e .date)) && termsInRange (l .terms))) (everyAccount accountInRange (map (accountClosed (l .terms) e) (l .accounts)))
+      both (not (l .begun) || (real (dayAfter (e .date)) && termsInRange (l .terms))) (everyAccount accountInRange (map (afterClosing (l .terms) e) (l .accounts)))
       (or-else (not (l .begun)) (real (dayAfter (e .date)) && termsInRange (l .terms)) (both (real (dayAfter (e .date))) (termsInRange (l .terms)) next-real (begun-ranged l (s .ranged) begun .1)))
       (closed-ranged (l .terms) e (l .accounts) (not-false (everyAccount (staysInRange (l .terms) e) (l .accounts)) (clear _ refl o 1)))
 
@@ -104,7 +104,7 @@ module _ (l : Ledger) (e : Entry) (s : Sound l) (h : admission l e ≡ 0) (c : 8
   unfolding bankOf
   takes-closing o =
       record {
-        sound = record { sized = unfold closed in (length-map (l .accounts) (accountClosed (l .terms) e) ∙ s .sized); ranged = next-ranged o };
+        sound = record { sized = unfold closed in (length-map (l .accounts) (afterClosing (l .terms) e) ∙ s .sized); ranged = next-ranged o };
         banks = λ i. ap openBank (after-is i) ∙ accounted (l .terms) e (accountAt l i) .bank ∙ ap (λ (z : ℤ). openBank (accountAt l i) +ℤ z) (sym (gain-is i));
         debts = λ i. ap openOwed (after-is i) ∙ accounted (l .terms) e (accountAt l i) .owed ∙ ap (λ (r : Report). openOwed (accountAt l i) +ℤ r .bill .0) (sym (report-is i));
         days = λ i. ap openDays (after-is i) ∙ accounted (l .terms) e (accountAt l i) .days ∙ ap (λ (r : Report). openDays (accountAt l i) +ℤ reportDays r) (sym (report-is i));

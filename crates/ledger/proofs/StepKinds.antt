@@ -5,15 +5,15 @@ use mathlib.Core.Bool.{Bool, true, false, cond, not, _&&_, true≢false}
 use mathlib.Core.List.{map}
 use native.Mathlib.Omega.{arith}
 use lib.Dec.{eqb}
-use lib.IntN.{ℤ, pos, negℤ, _+ℤ_, _-ℤ_, +ℤ-idr, +ℤ-idl}
-use lib.ListN.{length, getD, length-map, List·getD-map}
+use lib.IntN.{ℤ, pos, negℤ, _+ℤ_, +ℤ-idr, +ℤ-idl}
+use lib.ListN.{getD, length-map, List·getD-map}
 use borrow.Author.Tests.{eqb-true, eqb-false, not-false}
-use Rattle.tariff.specs.Amounts.{sum, more, less}
+use Rattle.tariff.specs.Amounts.{sum}
 use Rattle.tariff.specs.Terms.{capacityOf}
 use Rattle.tariff.specs.declared.terms.Terms.{Terms}
 use Rattle.tariff.specs.declared.terms.Capacity.{Capacity}
 use Rattle.tariff.proofs.Bools.{and-left, and-right, either}
-use Rattle.tariff.proofs.Laws.{sum-value, more-value, less-value, amount-value}
+use Rattle.tariff.proofs.Laws.{sum-value, amount-value}
 use Rattle.ledger.specs.Kinds as kinds
 use Rattle.ledger.specs.Kinds.{lookup, kindOf}
 use Rattle.ledger.specs.Checks.{verdict}
@@ -33,7 +33,7 @@ use Rattle.ledger.specs.Panel.{openBank, bankOf}
 use Rattle.ledger.specs.declared.state.Account.{Account}
 use Rattle.ledger.specs.declared.state.Ledger.{Ledger}
 use Rattle.ledger.specs.declared.entries.Entry.{Entry}
-use Rattle.ledger.specs.declared.answers.Change.{Change}
+use Rattle.ledger.specs.declared.changes.Change.{Change}
 use Rattle.ledger.proofs.Verdicts.{first, clear}
 use Rattle.ledger.proofs.RightEntries.{a-fits, b-fits, transfer-fits}
 use Rattle.ledger.proofs.Admitted.{is-begun, is-right}

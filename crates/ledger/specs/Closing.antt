@@ -5,7 +5,7 @@ use mathlib.Core.List.{List, [], _∷_, map}
 use lib.Dec.{eqb}
 use lib.IntN.{pos}
 use Rattle.tariff.specs.Amounts.{sum, less, inward, outward, together, added}
-use Rattle.tariff.specs.Dates.{lastOfMonth, lastDate, dayAfter, onMeasurementDay}
+use Rattle.tariff.specs.Dates.{lastOfMonth, dayAfter, onMeasurementDay}
 use Rattle.tariff.specs.Terms.{capacityOf}
 use Rattle.tariff.specs.Steps.{settledStep, falls}
 use Rattle.tariff.specs.Closing.{withdrawalLimit, breaksV3, breaksV4, breaksV5, breaksV6, breaksV7, breaksV8, cashOf, endsExcuse, carryOf, forfeitOf, maskOf}
@@ -75,8 +75,8 @@ dayEnd d mask cash a =
     (a .«violation_days» + cond (eqb mask 0) 0 1))
     noToday
 
-unfoldable pub dayClosed : Date → Account → Account
-dayClosed d a = dayEnd d (violationsOf d a) (cashAt d a) a
+unfoldable pub afterDay : Date → Account → Account
+afterDay d a = dayEnd d (violationsOf d a) (cashAt d a) a
 
 -- ---- "CLOSE MONTH then, months named being the one closed: bill = …, added to owed. Carry = …. Pending becomes k; a fall sets the excuse; MDDQ and BCQ are reworked. Month numbers and marks but the excuse clear. Last, … is forfeited, all of the excess over the reworked BCQ." Of the account that the day's part left:
 
@@ -100,16 +100,16 @@ monthEnd d limit step capacity forfeit bill a =
     (added (a .owed) bill))
     (a .excused || falls (a .step))
 
-unfoldable pub monthClosed : Date → Terms → Prices → Account → Account
-monthClosed d t p a = monthEnd d (limitOf d a) (settledStep (a .step)) (nextCapacity t a) (forfeitAt d t a) (billAt t p a) a
+unfoldable pub afterMonth : Date → Terms → Prices → Account → Account
+afterMonth d t p a = monthEnd d (limitOf d a) (settledStep (a .step)) (nextCapacity t a) (forfeitAt d t a) (billAt t p a) a
 
 -- ---- an account at a closing: after the day's part, at the end, and what is reported of it
 
-unfoldable pub closedDay : Date → Account → Closed
-closedDay d a =
+unfoldable pub dayClosing : Date → Account → Closed
+dayClosing d a =
     record {
-      day = dayClosed d a;
-      account = dayClosed d a;
+      day = afterDay d a;
+      account = afterDay d a;
       report =
           record {
             mask = violationsOf d a;
@@ -119,34 +119,34 @@ closedDay d a =
           };
     }
 
-unfoldable pub closedMonth : Date → Terms → Prices → Account → Closed
-closedMonth d t p a =
+unfoldable pub monthClosing : Date → Terms → Prices → Account → Closed
+monthClosing d t p a =
     record {
-      day = dayClosed d a;
-      account = monthClosed d t p (dayClosed d a);
+      day = afterDay d a;
+      account = afterMonth d t p (afterDay d a);
       report =
           record {
             mask = violationsOf d a;
             cash = cashAt d a;
-            forfeit = forfeitAt d t (dayClosed d a);
-            bill = billAt t p (dayClosed d a);
+            forfeit = forfeitAt d t (afterDay d a);
+            bill = billAt t p (afterDay d a);
           };
     }
 
 unfoldable pub notOpen : Account → Closed
 notOpen a = record { day = a; account = a; report = quiet }
 
-unfoldable pub closedAccount : Terms → Entry → Account → Closed
-closedAccount t e a =
+unfoldable pub closingOf : Terms → Entry → Account → Closed
+closingOf t e a =
     cond (a .opened)
-    (cond (eqb (e .kind) kinds.CLOSE-MONTH) (closedMonth (e .date) t (pricesOf e) a) (closedDay (e .date) a))
+    (cond (eqb (e .kind) kinds.CLOSE-MONTH) (monthClosing (e .date) t (pricesOf e) a) (dayClosing (e .date) a))
     (notOpen a)
 
-unfoldable pub accountClosed : Terms → Entry → Account → Account
-accountClosed t e a = closedAccount t e a .account
+unfoldable pub afterClosing : Terms → Entry → Account → Account
+afterClosing t e a = closingOf t e a .account
 
 unfoldable pub reportOf : Terms → Entry → Account → Report
-reportOf t e a = closedAccount t e a .report
+reportOf t e a = closingOf t e a .report
 
 -- ---- the checks
 
@@ -156,7 +156,7 @@ ready ends reads a = not (a .opened) || (a .today .delivered && (not reads || a 
 
 -- every number is in its range after the day's part and at the end, month numbers that then clear included; 29 where one is not
 unfoldable pub staysInRange : Terms → Entry → Account → Bool
-staysInRange t e a = accountInRange (closedAccount t e a .day) && accountInRange (closedAccount t e a .account)
+staysInRange t e a = accountInRange (closingOf t e a .day) && accountInRange (closingOf t e a .account)
 
 unfoldable pub closingChecks : Ledger → Entry → List Check
 closingChecks l e =
@@ -174,7 +174,7 @@ closed l e =
             touched = false;
             date = dayAfter (e .date);
             terms = l .terms;
-            accounts = map (accountClosed (l .terms) e) (l .accounts);
+            accounts = map (afterClosing (l .terms) e) (l .accounts);
           };
     }
 

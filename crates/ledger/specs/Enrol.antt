@@ -1,9 +1,7 @@
 -- "ENROL: … k and pending = MDQ / 3,000 rounded up; MDDQ, BCQ as above. … The account's other numbers and marks start at 0; accounts are never closed."
-use mathlib.Core.Bool.{true, not}
+use mathlib.Core.Bool.{not}
 use mathlib.Core.List.{List, [], _∷_}
-use lib.IntN.{pos}
 use Rattle.tariff.specs.Amounts.{amountOf}
-use Rattle.tariff.specs.Dates.{firstOfGasYear}
 use Rattle.tariff.specs.Terms.{capacityOf}
 use Rattle.tariff.specs.Enrol.{staysOnFbs, openingTooHigh}
 use Rattle.tariff.specs.Steps.{firstStep}
@@ -16,7 +14,7 @@ use Rattle.ledger.specs.State.{asOpen, nobody, withBank, withCapacity, w
 use Rattle.ledger.specs.Ranges.{accountInRange}
 use Rattle.ledger.specs.declared.state.Account.{Account}
 use Rattle.ledger.specs.declared.entries.Entry.{Entry}
-use Rattle.ledger.specs.declared.answers.Change.{Change}
+use Rattle.ledger.specs.declared.changes.Change.{Change}
 
 unfoldable pub newAccount : Terms → Dth → Quantity → Account
 newAccount t mdq opening =

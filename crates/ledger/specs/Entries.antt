@@ -4,6 +4,7 @@ use mathlib.Core.Bool.{Bool, true, false, cond, not, _&&_, _||_}
 use mathlib.Core.List.{List, [], _∷_}
 use lib.Dec.{eqb, leb, ltb}
 use lib.ListN.{getD, length}
+use Rattle.tariff.specs.Bounds.{mostUnits, mostMdq, mostMcf}
 use Rattle.tariff.specs.Dates.{real}
 use Rattle.tariff.specs.Terms.{termsInRange}
 use Rattle.tariff.specs.Bill.{pricesInRange}
@@ -17,8 +18,12 @@ use Rattle.ledger.specs.declared.entries.Entry.{Entry}
 
 -- ---- the bytes taken apart
 
+-- a byte, and numbers of two and of four bytes, the low byte first
 unfoldable pub byteAt : List ℕ → ℕ → ℕ
 byteAt bytes at = getD bytes at 0
+
+unfoldable pub halfAt : List ℕ → ℕ → ℕ
+halfAt bytes at = byteAt bytes at + 256 * byteAt bytes (at + 1)
 
 unfoldable pub wordAt : List ℕ → ℕ → ℕ
 wordAt bytes at = byteAt bytes at + 256 * (byteAt bytes (at + 1) + 256 * (byteAt bytes (at + 2) + 256 * byteAt bytes (at + 3)))
@@ -32,7 +37,7 @@ entryOf bytes =
       flags = byteAt bytes 3;
       date =
           record {
-            year = byteAt bytes 4 + 256 * byteAt bytes 5;
+            year = halfAt bytes 4;
             month = record { 0 = byteAt bytes 6 };
             day = byteAt bytes 7;
           };
@@ -92,19 +97,19 @@ unusedSet k e =
 
 -- units from 1 to 10^9
 unfoldable pub someUnits : ℕ → Bool
-someUnits w = leb 1 w && leb w 1000000000
+someUnits w = leb 1 w && leb w mostUnits
 
 -- "word outside its range" is what this is not: the ranges of the table, kind by kind
 unfoldable pub wordsInRange : Entry → Bool
 wordsInRange e =
     lookup (e .kind)
     ((kinds.TERMS, termsInRange (termsOf e))
-    ∷ (kinds.ENROL, leb (e .w1) 300000 && leb (e .w2) 1000000000)
-    ∷ (kinds.DELIVER, leb (e .w1) 1000000000 && leb (e .w2) 1000000000)
+    ∷ (kinds.ENROL, leb (e .w1) mostMdq && leb (e .w2) mostUnits)
+    ∷ (kinds.DELIVER, leb (e .w1) mostUnits && leb (e .w2) mostUnits)
     ∷ (kinds.TRANSFER, someUnits (e .w1) && someUnits (e .w2))
     ∷ (kinds.TRADE, someUnits (e .w1))
-    ∷ (kinds.MEASURE, leb (e .w1) 300000)
-    ∷ (kinds.USAGE, leb (e .w1) 100000000)
+    ∷ (kinds.MEASURE, leb (e .w1) mostMdq)
+    ∷ (kinds.USAGE, leb (e .w1) mostMcf)
     ∷ (kinds.CLOSE-DAY, true)
     ∷ (kinds.CLOSE-MONTH, pricesInRange (pricesOf e))
     ∷ [])

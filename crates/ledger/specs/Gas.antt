@@ -9,7 +9,7 @@ use Rattle.ledger.specs.Checks.{Check, verdict}
 use Rattle.ledger.specs.State.{withBank}
 use Rattle.ledger.specs.Ranges.{accountInRange}
 use Rattle.ledger.specs.declared.state.Account.{Account}
-use Rattle.ledger.specs.declared.answers.Change.{Change}
+use Rattle.ledger.specs.declared.changes.Change.{Change}
 
 unfoldable pub afterGiving : Account → Quantity → Account
 afterGiving a q = withBank a (less (a .bank) q)

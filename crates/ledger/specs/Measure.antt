@@ -1,7 +1,6 @@
 -- "MEASURE with m sets MDQ. …"
 use mathlib.Core.Bool.{true, not}
 use mathlib.Core.List.{List, [], _∷_}
-use Rattle.tariff.specs.Dates.{onMeasurementDay}
 use Rattle.tariff.specs.Steps.{measured}
 use Rattle.tariff.specs.declared.amounts.Dth.{Dth}
 use Rattle.ledger.specs.Checks.{Check, verdict}
@@ -9,7 +8,7 @@ use Rattle.ledger.specs.State.{withMeasure, withMonth}
 use Rattle.ledger.specs.Ranges.{accountInRange}
 use Rattle.ledger.specs.declared.state.Account.{Account}
 use Rattle.ledger.specs.declared.entries.Entry.{Entry}
-use Rattle.ledger.specs.declared.answers.Change.{Change}
+use Rattle.ledger.specs.declared.changes.Change.{Change}
 
 unfoldable pub remeasured : Account → Dth → Account
 remeasured a mdq =

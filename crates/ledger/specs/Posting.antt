@@ -1,11 +1,10 @@
 -- A posting, whole: bytes of any length and content, to any ledger.
 use Prim.Native.Nat.{ℕ}
-use mathlib.Core.Bool.{Bool, cond, not, _&&_}
+use mathlib.Core.Bool.{cond, not, _&&_}
 use mathlib.Core.List.{List, [], _∷_, _++_}
 use lib.Dec.{eqb}
 use lib.ListN.{length}
 use Rattle.tariff.specs.Dates.{sameDate}
-use Rattle.tariff.specs.declared.dates.Date.{Date}
 use Rattle.tariff.specs.declared.terms.Terms.{Terms}
 use Rattle.ledger.specs.Checks.{Check, verdict}
 use Rattle.ledger.specs.Kinds as kinds
@@ -26,7 +25,7 @@ use Rattle.ledger.specs.Days.{wrongDay}
 use Rattle.ledger.specs.declared.state.Account.{Account}
 use Rattle.ledger.specs.declared.state.Ledger.{Ledger}
 use Rattle.ledger.specs.declared.entries.Entry.{Entry}
-use Rattle.ledger.specs.declared.answers.Change.{Change}
+use Rattle.ledger.specs.declared.changes.Change.{Change}
 use Rattle.ledger.specs.declared.answers.Posted.{Posted}
 
 -- 20: a number of the ledger is out of its range. 21: it has not begun, and this is no TERMS. 22: this is not its date, once it has begun. 23: it is the wrong day for the kind.
@@ -65,6 +64,7 @@ changeOf t a e =
     ∷ [])
     (record { number = 2; account = a })
 
+-- the ledger with the changed account in its place, where the change answers 0
 unfoldable pub stored : Ledger → ℕ → Change → Posted
 stored l i c = settle l (c .number) (withAccount l i (c .account))
 

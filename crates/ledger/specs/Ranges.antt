@@ -2,6 +2,7 @@
 use mathlib.Core.Bool.{Bool, true, not, _&&_, _||_}
 use mathlib.Core.List.{List, [], _∷_}
 use lib.Dec.{leb}
+use Rattle.tariff.specs.Bounds.{mostBank, mostOverdraft, mostMdq, mostBcq, mostMcf, mostOwed, mostDays}
 use Rattle.tariff.specs.Amounts.{within, withinMills}
 use Rattle.tariff.specs.Dates.{real}
 use Rattle.tariff.specs.Terms.{termsInRange}
@@ -13,12 +14,12 @@ use Rattle.ledger.specs.declared.state.Ledger.{Ledger}
 -- every number is at most 10^11, net on either side of zero
 unfoldable pub totalsInRange : Totals → Bool
 totalsInRange m =
-    within 100000000000 100000000000 (m .net)
-    && leb (m .sales .0) 100000000000
-    && leb (m .purchases .0) 100000000000
-    && leb (m .«cash_ins» .0) 100000000000
-    && leb (m .«cash_outs» .0) 100000000000
-    && leb (m .usage .0) 100000000
+    within mostBank mostBank (m .net)
+    && leb (m .sales .0) mostBank
+    && leb (m .purchases .0) mostBank
+    && leb (m .«cash_ins» .0) mostBank
+    && leb (m .«cash_outs» .0) mostBank
+    && leb (m .usage .0) mostMcf
 
 unfoldable pub stepInRange : Bool → Step → Bool
 stepInRange opened s =
@@ -27,13 +28,13 @@ stepInRange opened s =
 
 unfoldable pub accountInRange : Account → Bool
 accountInRange a =
-    within 1000000000 100000000000 (a .bank)
+    within mostOverdraft mostBank (a .bank)
     && totalsInRange (a .month .totals)
     && stepInRange (a .opened) (a .step)
-    && (leb (a .mdq .0) 300000 && leb (a .capacity .mddq .0) 300000 && leb (a .capacity .bcq .0) 30000000)
-    && leb (a .carry .0) 100000000000
-    && withinMills 1000000000000000 (a .owed)
-    && leb (a .«violation_days») 40000
+    && (leb (a .mdq .0) mostMdq && leb (a .capacity .mddq .0) mostMdq && leb (a .capacity .bcq .0) mostBcq)
+    && leb (a .carry .0) mostBank
+    && withinMills mostOwed (a .owed)
+    && leb (a .«violation_days») mostDays
 
 -- every account passes
 unfoldable pub everyAccount : (Account → Bool) → List Account → Bool

@@ -1,7 +1,6 @@
 -- "TERMS begins the ledger on its date or replaces the terms. MDDQ = …; BCQ = …, for every open account."
 use mathlib.Core.Bool.{true, not, cond}
 use mathlib.Core.List.{List, [], _∷_, map}
-use Rattle.tariff.specs.Dates.{firstOfGasYear}
 use Rattle.tariff.specs.Terms.{capacityOf}
 use Rattle.tariff.specs.declared.terms.Terms.{Terms}
 use Rattle.ledger.specs.Checks.{Check, verdict}

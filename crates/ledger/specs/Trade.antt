@@ -8,7 +8,7 @@ use Rattle.ledger.specs.State.{withTotals}
 use Rattle.ledger.specs.Gas.{giving, taking}
 use Rattle.ledger.specs.declared.state.Account.{Account}
 use Rattle.ledger.specs.declared.entries.Entry.{Entry}
-use Rattle.ledger.specs.declared.answers.Change.{Change}
+use Rattle.ledger.specs.declared.changes.Change.{Change}
 
 -- a sale adds to the month's sales, a purchase to its purchases
 unfoldable pub withTrade : Bool → Totals → Quantity → Totals

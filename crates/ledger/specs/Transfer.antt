@@ -8,7 +8,7 @@ use Rattle.ledger.specs.Gas.{giving, taking}
 use Rattle.ledger.specs.Answers.{settle}
 use Rattle.ledger.specs.declared.state.Ledger.{Ledger}
 use Rattle.ledger.specs.declared.entries.Entry.{Entry}
-use Rattle.ledger.specs.declared.answers.Change.{Change}
+use Rattle.ledger.specs.declared.changes.Change.{Change}
 use Rattle.ledger.specs.declared.answers.Posted.{Posted}
 
 unfoldable pub giver : Ledger → Entry → Change

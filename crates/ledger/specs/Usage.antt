@@ -8,7 +8,7 @@ use Rattle.ledger.specs.State.{withMonth}
 use Rattle.ledger.specs.Ranges.{accountInRange}
 use Rattle.ledger.specs.declared.state.Account.{Account}
 use Rattle.ledger.specs.declared.entries.Entry.{Entry}
-use Rattle.ledger.specs.declared.answers.Change.{Change}
+use Rattle.ledger.specs.declared.changes.Change.{Change}
 
 unfoldable pub withUsage : Totals → Mcf → Totals
 withUsage m usage =

@@ -1,7 +1,6 @@
 // What a posting answers, and the ledger that it leaves.
 ghost use mathlib.Core.Path.{_≡_};
 ghost use Rattle.ledger.specs.Answers.{quiet, refused, settle};
-use crate::state::Account;
 use crate::state::Ledger;
 use tariff::amounts::Mills;
 use tariff::amounts::Quantity;
@@ -31,12 +30,6 @@ pub struct Posted {
     pub ledger: Ledger,
 }
 
-// What a posting makes of the one account that it concerns: the number, and the account after it where that is 0.
-pub struct Change {
-    pub number: u64,
-    pub account: Account,
-}
-
 pub fn quiet() -> Report
     ensures { λ r. ⌜ r ≡ quiet ⌝ }
 {
@@ -48,8 +41,8 @@ pub fn quiet() -> Report
     }
 }
 
-// The number n, zeros for everything else, and the ledger as it was.
-pub fn refused(l: Ledger, n: u64) -> Posted
+// The number n, zeros for everything else, and a ledger: the one given where n refuses, the next where it is 0.
+pub fn answered(l: Ledger, n: u64) -> Posted
     ensures { λ r. ⌜ r ≡ refused l n ⌝ }
 {
     let quiet = quiet();
@@ -63,7 +56,7 @@ pub fn settle(l: Ledger, n: u64, next: Ledger) -> Posted
     ensures { λ r. ⌜ r ≡ settle l n next ⌝ }
 {
     if n == 0 {
-        return refused(next, n);
+        return answered(next, n);
     }
-    refused(l, n)
+    answered(l, n)
 }

@@ -11,12 +11,13 @@ ghost use Rattle.ledger.specs.Kinds.{CLOSE-DAY, CLOSE-MONTH};
 ghost use Rattle.ledger.specs.Entries.{pricesOf};
 ghost use Rattle.ledger.specs.Ranges.{accountInRange, everyAccount};
 ghost use Rattle.ledger.specs.Posting.{admission};
-ghost use Rattle.ledger.specs.Closing.{limitOf, violationsOf, cashAt, withCash, excusedStill, dayEnd, monthEnd, closedDay, closedMonth, closedAccount, staysInRange, ready, closed, postClosing};
+ghost use Rattle.ledger.specs.Closing.{limitOf, violationsOf, cashAt, withCash, excusedStill, dayEnd, monthEnd, dayClosing, monthClosing, closingOf, staysInRange, ready, closed, postClosing};
+ghost use Rattle.tariff.specs.Bounds.{mostBank, mostBcq, mostDays, mostOwed};
 use crate::answers::Answer;
 use crate::answers::Posted;
 use crate::answers::Report;
+use crate::answers::answered;
 use crate::answers::quiet;
-use crate::answers::refused;
 use crate::entries::Entry;
 use crate::kinds;
 use crate::ranges::account_in_range;
@@ -56,7 +57,7 @@ pub struct Closed {
 
 // The limit on a winter month's withdrawals.
 fn limit(d: Date, a: Account) -> Quantity
-    requires { ⌜ a .capacity .bcq .0 ≤ 30000000 ⌝ }
+    requires { ⌜ a .capacity .bcq .0 ≤ mostBcq ⌝ }
     ensures { λ r. ⌜ r ≡ limitOf d a ⌝ }
     ensures bounded { λ r. ⌜ r .0 ≤ 3060000000 ⌝ }
 {
@@ -97,7 +98,7 @@ fn cash_at(d: Date, a: Account) -> Units
 }
 
 fn with_cash(m: Totals, cash: Units) -> Totals
-    requires { ⌜ (m .«cash_ins» .0 ≤ 100000000000) × (m .«cash_outs» .0 ≤ 100000000000) × (size cash ≤ 103060000000) ⌝ }
+    requires { ⌜ (m .«cash_ins» .0 ≤ mostBank) × (m .«cash_outs» .0 ≤ mostBank) × (size cash ≤ 103060000000) ⌝ }
     ensures { λ r. ⌜ r ≡ withCash m cash ⌝ }
 {
     let paid_in = m.cash_ins.plus(cash.inward());
@@ -110,7 +111,7 @@ fn with_cash(m: Totals, cash: Units) -> Totals
 
 // Whether the excuse goes on, with the bank after cash.
 fn excused_still(d: Date, a: Account, bank: Units) -> bool
-    requires { ⌜ a .capacity .bcq .0 ≤ 30000000 ⌝ }
+    requires { ⌜ a .capacity .bcq .0 ≤ mostBcq ⌝ }
     ensures { λ r. ⌜ r ≡ excusedStill d a bank ⌝ }
 {
     let month = d.month;
@@ -121,7 +122,7 @@ fn excused_still(d: Date, a: Account, bank: Units) -> bool
 
 // One more violation day where anything was broken.
 fn days(so_far: u64, mask: u64) -> u64
-    requires { ⌜ «so_far» ≤ 40000 ⌝ }
+    requires { ⌜ «so_far» ≤ mostDays ⌝ }
     ensures { λ r. ⌜ r ≡ «so_far» + cond (eqb mask 0) 0 1 ⌝ }
 {
     if mask == 0 {
@@ -153,7 +154,7 @@ fn day_end(d: Date, mask: u64, cash: Units, a: Account) -> Account
 
 fn close_day(d: Date, a: Account) -> Closed
     requires { ⌜ (real d ≡ true) × (accountInRange a ≡ true) ⌝ }
-    ensures { λ r. ⌜ r ≡ closedDay d a ⌝ }
+    ensures { λ r. ⌜ r ≡ dayClosing d a ⌝ }
 {
     let limit = limit(d, a);
     let mask = violations(d, limit, a);
@@ -183,8 +184,8 @@ fn month_end(
     a: Account,
 ) -> Account
     requires { ⌜ (size (a .bank) ≤ 300000000000) × (forfeit .0 ≤ 300000000000) ⌝ }
-    requires { ⌜ (sizeMills (a .owed) ≤ 1000000000000000) × (sizeMills bill ≤ 2000000000000000) ⌝ }
-    requires { ⌜ (limit .0 ≤ 3060000000) × (size (a .month .totals .net) ≤ 100000000000) ⌝ }
+    requires { ⌜ (sizeMills (a .owed) ≤ mostOwed) × (sizeMills bill ≤ 2000000000000000) ⌝ }
+    requires { ⌜ (limit .0 ≤ 3060000000) × (size (a .month .totals .net) ≤ mostBank) ⌝ }
     ensures { λ r. ⌜ r ≡ monthEnd d limit step capacity forfeit bill a ⌝ }
 {
     let month = d.month;
@@ -208,7 +209,7 @@ fn month_end(
 fn close_month(d: Date, t: Terms, p: Prices, a: Account) -> Closed
     requires { ⌜ (real d ≡ true) × (accountInRange a ≡ true) × (a .opened ≡ true) ⌝ }
     requires { ⌜ (termsInRange t ≡ true) × (pricesInRange p ≡ true) ⌝ }
-    ensures { λ r. ⌜ r ≡ closedMonth d t p a ⌝ }
+    ensures { λ r. ⌜ r ≡ monthClosing d t p a ⌝ }
 {
     let month = d.month;
     let limit = limit(d, a);
@@ -239,7 +240,7 @@ fn close_month(d: Date, t: Terms, p: Prices, a: Account) -> Closed
 fn close_account(t: Terms, e: Entry, a: Account) -> Closed
     requires { ⌜ (real (e .date) ≡ true) × (accountInRange a ≡ true) × (termsInRange t ≡ true) × (e .kind ≡ CLOSE-MONTH → pricesInRange (pricesOf e) ≡ true) ⌝ }
     requires opened { ⌜ a .opened ≡ true ⌝ }
-    ensures { λ r. ⌜ r ≡ closedAccount t e a ⌝ }
+    ensures { λ r. ⌜ r ≡ closingOf t e a ⌝ }
 {
     let date = e.date;
     let kind = e.kind;
@@ -316,11 +317,11 @@ pub fn post_closing(l: Ledger, e: Entry) -> Posted
         all = all & one;
     }
     if !all {
-        return refused(l, 27);
+        return answered(l, 27);
     }
     let closed = close_all(l, e);
     if !closed.fits {
-        return refused(l, 29);
+        return answered(l, 29);
     }
     let reports = closed.reports;
     let next = closed.ledger;

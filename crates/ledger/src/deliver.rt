@@ -8,12 +8,12 @@ ghost use Rattle.ledger.specs.Kinds.{DELIVER};
 ghost use Rattle.ledger.specs.Ranges.{accountInRange};
 ghost use Rattle.ledger.specs.Entries.{fieldNumber};
 ghost use Rattle.ledger.specs.Deliver.{delivered, delivery};
-use crate::answers::Change;
+ghost use Rattle.tariff.specs.Bounds.{mostUnits};
+use crate::changes::Change;
 use crate::checks::refuse;
 use crate::entries::Entry;
 use crate::ranges::account_in_range;
 use crate::state::Account;
-use crate::state::Today;
 use tariff::amounts::Quantity;
 use tariff::amounts::Units;
 use tariff::delivery::breaks_v1;
@@ -24,7 +24,7 @@ use tariff::months::Month;
 use tariff::terms::Terms;
 
 fn delivered(m: Month, a: Account, amount: Units, back_cast: Quantity) -> Account
-    requires { ⌜ (accountInRange a ≡ true) × (size amount ≤ 1000000000) ⌝ }
+    requires { ⌜ (accountInRange a ≡ true) × (size amount ≤ mostUnits) ⌝ }
     ensures { λ r. ⌜ r ≡ delivered m a amount «back_cast» ⌝ }
 {
     let bank = a.bank;
@@ -43,11 +43,10 @@ fn delivered(m: Month, a: Account, amount: Units, back_cast: Quantity) -> Accoun
     let v2 = breaks_v2(share, mddq, amount);
     totals.net = moved;
     month.totals = totals;
-    let today = Today {
-        delivered: true,
-        v1,
-        v2,
-    };
+    let mut today = a.today;
+    today.delivered = true;
+    today.v1 = v1;
+    today.v2 = v2;
     let mut next = a;
     next.bank = banked;
     next.month = month;

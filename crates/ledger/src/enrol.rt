@@ -7,7 +7,8 @@ ghost use Rattle.ledger.specs.Kinds.{ENROL};
 ghost use Rattle.ledger.specs.Entries.{fieldNumber};
 ghost use Rattle.ledger.specs.Ranges.{accountInRange};
 ghost use Rattle.ledger.specs.Enrol.{newAccount, enrolment};
-use crate::answers::Change;
+ghost use Rattle.tariff.specs.Bounds.{mostBcq, mostMdq, mostUnits};
+use crate::changes::Change;
 use crate::checks::refuse;
 use crate::entries::Entry;
 use crate::ranges::account_in_range;
@@ -22,9 +23,9 @@ use tariff::steps::Step;
 use tariff::terms::Terms;
 
 fn new_account(t: Terms, mdq: Dth, opening: Quantity) -> Account
-    requires { ⌜ (termsInRange t ≡ true) × (mdq .0 ≤ 300000) × (opening .0 ≤ 1000000000) ⌝ }
+    requires { ⌜ (termsInRange t ≡ true) × (mdq .0 ≤ mostMdq) × (opening .0 ≤ mostUnits) ⌝ }
     ensures { λ r. ⌜ r ≡ newAccount t mdq opening ⌝ }
-    ensures bounded { λ r. ⌜ r .capacity .bcq .0 ≤ 30000000 ⌝ }
+    ensures bounded { λ r. ⌜ r .capacity .bcq .0 ≤ mostBcq ⌝ }
 {
     let step = Step::first(mdq);
     let capacity = t.capacity(step.k);

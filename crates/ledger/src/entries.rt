@@ -9,6 +9,9 @@ use crate::kinds::Kind;
 use crate::kinds::kind_of;
 use tariff::amounts::Dth;
 use tariff::bill::Prices;
+use tariff::bounds::MOST_MCF;
+use tariff::bounds::MOST_MDQ;
+use tariff::bounds::MOST_UNITS;
 use tariff::dates::Date;
 use tariff::months::Month;
 use tariff::terms::Terms;
@@ -91,7 +94,7 @@ pub fn decode(bytes: &[u8]) -> Entry
 fn some_units(w: u64) -> bool
     ensures { λ r. ⌜ r ≡ someUnits w ⌝ }
 {
-    (1 <= w) & (w <= 1000000000)
+    (1 <= w) & (w <= MOST_UNITS)
 }
 
 impl Entry {
@@ -164,12 +167,12 @@ impl Entry {
         let kind = self.kind;
         match kind {
             kinds::TERMS => self.terms().in_range(),
-            kinds::ENROL => (self.w1 <= 300000) & (self.w2 <= 1000000000),
-            kinds::DELIVER => (self.w1 <= 1000000000) & (self.w2 <= 1000000000),
+            kinds::ENROL => (self.w1 <= MOST_MDQ) & (self.w2 <= MOST_UNITS),
+            kinds::DELIVER => (self.w1 <= MOST_UNITS) & (self.w2 <= MOST_UNITS),
             kinds::TRANSFER => some_units(self.w1) & some_units(self.w2),
             kinds::TRADE => some_units(self.w1),
-            kinds::MEASURE => self.w1 <= 300000,
-            kinds::USAGE => self.w1 <= 100000000,
+            kinds::MEASURE => self.w1 <= MOST_MDQ,
+            kinds::USAGE => self.w1 <= MOST_MCF,
             kinds::CLOSE_DAY => true,
             kinds::CLOSE_MONTH => self.prices().in_range(),
             _ => false,

@@ -3,7 +3,8 @@ ghost use mathlib.Core.Path.{_≡_};
 ghost use Prim.Native.Nat.{_≤_};
 ghost use Rattle.tariff.specs.Amounts.{size};
 ghost use Rattle.ledger.specs.Gas.{giving, taking};
-use crate::answers::Change;
+ghost use Rattle.tariff.specs.Bounds.{mostBank, mostBcq, mostUnits};
+use crate::changes::Change;
 use crate::checks::refuse;
 use crate::ranges::account_in_range;
 use crate::state::Account;
@@ -13,7 +14,7 @@ use tariff::limits::below_minimum;
 use tariff::months::Month;
 
 pub fn give(m: Month, a: Account, q: Quantity) -> Change
-    requires { ⌜ (size (a .bank) ≤ 100000000000) × (a .capacity .bcq .0 ≤ 30000000) × (q .0 ≤ 1000000000) ⌝ }
+    requires { ⌜ (size (a .bank) ≤ mostBank) × (a .capacity .bcq .0 ≤ mostBcq) × (q .0 ≤ mostUnits) ⌝ }
     ensures { λ r. ⌜ r ≡ giving m a q ⌝ }
 {
     let bcq = a.capacity.bcq;
@@ -30,7 +31,7 @@ pub fn give(m: Month, a: Account, q: Quantity) -> Change
 }
 
 pub fn take(m: Month, a: Account, q: Quantity) -> Change
-    requires { ⌜ (size (a .bank) ≤ 100000000000) × (a .capacity .bcq .0 ≤ 30000000) × (q .0 ≤ 1000000000) ⌝ }
+    requires { ⌜ (size (a .bank) ≤ mostBank) × (a .capacity .bcq .0 ≤ mostBcq) × (q .0 ≤ mostUnits) ⌝ }
     ensures { λ r. ⌜ r ≡ taking m a q ⌝ }
 {
     let bcq = a.capacity.bcq;

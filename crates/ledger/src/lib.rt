@@ -1,5 +1,6 @@
 // The bank ledger: postings of nine kinds, and the panel.
 mod answers;
+mod changes;
 mod checks;
 mod closing;
 mod deliver;
@@ -32,7 +33,7 @@ ghost use Rattle.ledger.specs.State.{fresh};
 ghost use Rattle.ledger.specs.Posting.{posted};
 ghost use Rattle.ledger.specs.Panel.{bankOf, panelOf};
 ghost use Rattle.ledger.specs.MarkedCases.{MarkedCases};
-use crate::answers::refused;
+use crate::answers::answered;
 use crate::entries::decode;
 use crate::kinds::kind_of;
 use crate::panels::open_bank;
@@ -93,7 +94,7 @@ pub fn post(mut ledger: Ledger, entry: &[u8]) -> Posted
     ensures { λ r. ⌜ r ≡ posted ledger (now (entry .entry)) ⌝ }
 {
     if entry.len() != 32 {
-        return refused(ledger, 1);
+        return answered(ledger, 1);
     }
     let e = decode(entry);
     let today = ledger.date;
@@ -106,7 +107,7 @@ pub fn post(mut ledger: Ledger, entry: &[u8]) -> Posted
     }
     let n = admission(fits, ledger.begun, ledger.touched, today, e);
     if n != 0 {
-        return refused(ledger, n);
+        return answered(ledger, n);
     }
     let k = kind_of(e.kind);
     if k.accounts != 1 {
@@ -117,12 +118,12 @@ pub fn post(mut ledger: Ledger, entry: &[u8]) -> Posted
     let c = change(terms, a, e);
     let m = c.number;
     if m != 0 {
-        return refused(ledger, m);
+        return answered(ledger, m);
     }
     let b = c.account;
     ledger.accounts[i] = b;
     ledger.touched = true;
-    refused(ledger, 0)
+    answered(ledger, 0)
 }
 
 // For a caller who keeps one ledger in its own storage: what `post` returns takes the ledger's place there, so that no old copy is left to post to.

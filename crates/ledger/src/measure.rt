@@ -6,7 +6,8 @@ ghost use Rattle.ledger.specs.Kinds.{MEASURE};
 ghost use Rattle.ledger.specs.Ranges.{accountInRange};
 ghost use Rattle.ledger.specs.Entries.{fieldNumber};
 ghost use Rattle.ledger.specs.Measure.{remeasured, measurement};
-use crate::answers::Change;
+ghost use Rattle.tariff.specs.Bounds.{mostMdq};
+use crate::changes::Change;
 use crate::checks::refuse;
 use crate::entries::Entry;
 use crate::ranges::account_in_range;
@@ -14,7 +15,7 @@ use crate::state::Account;
 use tariff::amounts::Dth;
 
 fn remeasured(a: Account, mdq: Dth) -> Account
-    requires { ⌜ (accountInRange a ≡ true) × (mdq .0 ≤ 300000) ⌝ }
+    requires { ⌜ (accountInRange a ≡ true) × (mdq .0 ≤ mostMdq) ⌝ }
     ensures { λ r. ⌜ r ≡ remeasured a mdq ⌝ }
 {
     let step = a.step;

@@ -8,9 +8,9 @@ ghost use Rattle.ledger.specs.Ranges.{accountInRange, inRange};
 ghost use Rattle.ledger.specs.Days.{wrongDay};
 ghost use Rattle.ledger.specs.Posting.{admission, postSeveral, changeOf};
 ghost use Rattle.ledger.specs.declared.state.Ledger as declared;
-use crate::answers::Change;
 use crate::answers::Posted;
-use crate::answers::refused;
+use crate::answers::answered;
+use crate::changes::Change;
 use crate::checks::refuse;
 use crate::closing::post_closing;
 use crate::deliver::delivery;
@@ -74,7 +74,7 @@ pub fn post_several(l: Ledger, e: Entry) -> Posted
         kinds::TRANSFER => return post_transfer(l, e),
         kinds::CLOSE_DAY => {}
         kinds::CLOSE_MONTH => {}
-        _ => return refused(l, 2),
+        _ => return answered(l, 2),
     }
     // One call: with a call in each arm the compiler copies the ledger once more.
     post_closing(l, e)

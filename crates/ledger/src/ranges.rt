@@ -4,17 +4,21 @@ ghost use Rattle.ledger.specs.Ranges.{totalsInRange, stepInRange, accoun
 use crate::state::Account;
 use crate::state::Ledger;
 use tariff::bill::Totals;
+use tariff::bounds::MOST_BANK;
+use tariff::bounds::MOST_BCQ;
+use tariff::bounds::MOST_DAYS;
+use tariff::bounds::MOST_MCF;
+use tariff::bounds::MOST_MDQ;
+use tariff::bounds::MOST_OVERDRAFT;
+use tariff::bounds::MOST_OWED;
 use tariff::steps::Step;
 
 fn totals_in_range(m: Totals) -> bool
     ensures { λ r. ⌜ r ≡ totalsInRange m ⌝ }
 {
-    let net = m.net.within(100000000000, 100000000000);
-    let trades = net & (m.sales.0 <= 100000000000) & (m.purchases.0 <= 100000000000);
-    trades
-        & (m.cash_ins.0 <= 100000000000)
-        & (m.cash_outs.0 <= 100000000000)
-        & (m.usage.0 <= 100000000)
+    let net = m.net.within(MOST_BANK, MOST_BANK);
+    let trades = net & (m.sales.0 <= MOST_BANK) & (m.purchases.0 <= MOST_BANK);
+    trades & (m.cash_ins.0 <= MOST_BANK) & (m.cash_outs.0 <= MOST_BANK) & (m.usage.0 <= MOST_MCF)
 }
 
 fn step_in_range(opened: bool, s: Step) -> bool
@@ -31,20 +35,20 @@ pub fn account_in_range(a: Account) -> bool
 {
     let month = a.month.totals;
     let step = a.step;
-    let bank = a.bank.within(1000000000, 100000000000);
+    let bank = a.bank.within(MOST_OVERDRAFT, MOST_BANK);
     let totals = totals_in_range(month);
     let steps = step_in_range(a.opened, step);
-    let owed = a.owed.within(1000000000000000);
-    let capacity = (a.mdq.0 <= 300000)
-        & (a.capacity.mddq.0 <= 300000)
-        & (a.capacity.bcq.0 <= 30000000);
+    let owed = a.owed.within(MOST_OWED);
+    let capacity = (a.mdq.0 <= MOST_MDQ)
+        & (a.capacity.mddq.0 <= MOST_MDQ)
+        & (a.capacity.bcq.0 <= MOST_BCQ);
     bank
         & totals
         & steps
         & capacity
-        & (a.carry.0 <= 100000000000)
+        & (a.carry.0 <= MOST_BANK)
         & owed
-        & (a.violation_days <= 40000)
+        & (a.violation_days <= MOST_DAYS)
 }
 
 pub fn in_range(l: Ledger) -> bool

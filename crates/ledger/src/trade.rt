@@ -6,7 +6,8 @@ ghost use Rattle.ledger.specs.Kinds.{TRADE};
 ghost use Rattle.ledger.specs.Ranges.{accountInRange};
 ghost use Rattle.ledger.specs.Entries.{fieldNumber};
 ghost use Rattle.ledger.specs.Trade.{booked, traded, trade};
-use crate::answers::Change;
+ghost use Rattle.tariff.specs.Bounds.{mostUnits};
+use crate::changes::Change;
 use crate::checks::refuse;
 use crate::entries::Entry;
 use crate::gas::give;
@@ -15,7 +16,7 @@ use crate::state::Account;
 use tariff::amounts::Quantity;
 
 fn booked(sells: bool, a: Account, q: Quantity) -> Account
-    requires { ⌜ (accountInRange a ≡ true) × (q .0 ≤ 1000000000) ⌝ }
+    requires { ⌜ (accountInRange a ≡ true) × (q .0 ≤ mostUnits) ⌝ }
     ensures { λ r. ⌜ r ≡ booked sells a q ⌝ }
 {
     let mut month = a.month;
@@ -36,7 +37,7 @@ fn booked(sells: bool, a: Account, q: Quantity) -> Account
 }
 
 fn traded(a: Account, e: Entry) -> Change
-    requires { ⌜ (accountInRange a ≡ true) × (e .w1 ≤ 1000000000) ⌝ }
+    requires { ⌜ (accountInRange a ≡ true) × (e .w1 ≤ mostUnits) ⌝ }
     ensures { λ r. ⌜ r ≡ traded a e ⌝ }
 {
     let date = e.date;

@@ -1,7 +1,7 @@
 // USAGE.
 ghost use mathlib.Core.Path.{_≡_};
 ghost use Rattle.ledger.specs.Usage.{metered, usage};
-use crate::answers::Change;
+use crate::changes::Change;
 use crate::checks::refuse;
 use crate::entries::Entry;
 use crate::ranges::account_in_range;

@@ -15,7 +15,8 @@ ghost use Rattle.archive.specs.Reading.{checked, placeOf};
 ghost use Rattle.archive.specs.Replay.{figuresOf};
 ghost use Rattle.archive.specs.YearSheet.{sheetOf};
 ghost use Rattle.nedrulov.specs.Cells.{cellsOf, cellsAfter};
-ghost use Rattle.nedrulov.specs.Limits.{bandOf, deliveryAmount};
+ghost use Rattle.nedrulov.specs.Amounts.{deliveryAmount};
+ghost use Rattle.nedrulov.specs.Limits.{bandOf};
 use archive::Checked;
 use archive::Figures;
 use archive::Place;
@@ -27,6 +28,9 @@ use ledger::Posted;
 use tariff::amounts::Dth;
 use tariff::amounts::Quantity;
 use tariff::amounts::Units;
+use tariff::bounds::MOST_BCQ;
+use tariff::bounds::MOST_RETAINAGE;
+use tariff::bounds::MOST_UNITS;
 use tariff::delivery::retained;
 use tariff::months::Month;
 
@@ -136,7 +140,7 @@ fn put_cells(sheet: [[Units; 12]; 16], cells: &mut [i64])
 pub extern "C" fn nedrulov_amount(retainage: u64, delivered: u64, back_cast: u64) -> i64
     ensures { λ r. ⌜ r ≡ deliveryAmount retainage delivered «back_cast» ⌝ }
 {
-    if (retainage <= 9999) & (delivered <= 1000000000) & (back_cast <= 1000000000) {
+    if (retainage <= MOST_RETAINAGE) & (delivered <= MOST_UNITS) & (back_cast <= MOST_UNITS) {
         let amount = retained(retainage, Quantity(delivered), Quantity(back_cast));
         return amount.0;
     }
@@ -148,7 +152,7 @@ pub extern "C" fn nedrulov_amount(retainage: u64, delivered: u64, back_cast: u64
 pub extern "C" fn nedrulov_band(month: u64, bcq: u64) -> Band
     ensures { λ r. ⌜ r ≡ bandOf month bcq ⌝ }
 {
-    if (1 <= month) & (month <= 12) & (bcq <= 30000000) {
+    if (1 <= month) & (month <= 12) & (bcq <= MOST_BCQ) {
         let m = Month(month);
         let minimum = Quantity::percent(m.minimum(), Dth(bcq));
         let maximum = Quantity::percent(m.maximum(), Dth(bcq));

@@ -1,3 +1,4 @@
+pub mod Bounds
 pub mod Amounts
 pub mod Months
 pub mod Dates

@@ -2,6 +2,7 @@
 use Prim.Native.Nat.{ℕ, _*_, _/_}
 use mathlib.Core.Bool.{Bool, _&&_}
 use lib.Dec.{leb}
+use Rattle.tariff.specs.Bounds.{mostNoNotice, mostDesignDay, mostRetainage, mostRate}
 use Rattle.tariff.specs.declared.amounts.Dth.{Dth}
 use Rattle.tariff.specs.declared.terms.Terms.{Terms}
 use Rattle.tariff.specs.declared.terms.Capacity.{Capacity}
@@ -9,11 +10,11 @@ use Rattle.tariff.specs.declared.terms.Capacity.{Capacity}
 -- "w1 NN, daily no-notice quantity, 1 to 10^7; w2 DD, design day, NN to 10^8; w3 S, annual storage, NN to 100 × NN; w4 R, retainage, 0 to 9,999 ten-thousandths; w5 demand rate per Dth, w6 commodity rate per Mcf, mills, to 10^5"
 unfoldable pub termsInRange : Terms → Bool
 termsInRange t =
-    (leb 1 (t .«no_notice» .0) && leb (t .«no_notice» .0) 10000000)
-    && (leb (t .«no_notice» .0) (t .«design_day» .0) && leb (t .«design_day» .0) 100000000)
+    (leb 1 (t .«no_notice» .0) && leb (t .«no_notice» .0) mostNoNotice)
+    && (leb (t .«no_notice» .0) (t .«design_day» .0) && leb (t .«design_day» .0) mostDesignDay)
     && (leb (t .«no_notice» .0) (t .storage .0) && leb (t .storage .0) (100 * t .«no_notice» .0))
-    && leb (t .retainage) 9999
-    && (leb (t .«demand_rate») 100000 && leb (t .«commodity_rate») 100000)
+    && leb (t .retainage) mostRetainage
+    && (leb (t .«demand_rate») mostRate && leb (t .«commodity_rate») mostRate)
 
 -- "MDDQ = floor(3,000 × k × NN / DD)"
 unfoldable pub mddqOf : Terms → ℕ → Dth

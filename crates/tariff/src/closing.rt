@@ -5,6 +5,7 @@ ghost use Prim.Native.Nat.{_+_, _≤_};
 ghost use Rattle.tariff.specs.Amounts.{size};
 ghost use Rattle.tariff.specs.Dates.{real};
 ghost use Rattle.tariff.specs.Closing.{breaksV3, withdrawalLimit, breaksV4, breaksV5, breaksV6, breaksV7, breaksV8, cashOf, endsExcuse, carryOf, excessOver, forfeitOf, maskOf};
+ghost use Rattle.tariff.specs.Bounds.{mostBank, mostBcq};
 use crate::amounts::Dth;
 use crate::amounts::Quantity;
 use crate::amounts::Units;
@@ -14,7 +15,7 @@ use crate::dates::Date;
 use crate::months::Month;
 
 pub fn breaks_v3(m: Month, bcq: Dth, net: Units) -> bool
-    requires { ⌜ bcq .0 ≤ 30000000 ⌝ }
+    requires { ⌜ bcq .0 ≤ mostBcq ⌝ }
     ensures { λ r. ⌜ r ≡ breaksV3 m bcq net ⌝ }
 {
     net.above(Quantity::percent(m.mmbq(), bcq))
@@ -22,7 +23,7 @@ pub fn breaks_v3(m: Month, bcq: Dth, net: Units) -> bool
 
 // The most that a winter month may still withdraw, after what the months before it took too much.
 pub fn withdrawal_limit(m: Month, bcq: Dth, carry: Quantity) -> Quantity
-    requires { ⌜ bcq .0 ≤ 30000000 ⌝ }
+    requires { ⌜ bcq .0 ≤ mostBcq ⌝ }
     ensures { λ r. ⌜ r ≡ withdrawalLimit m bcq carry ⌝ }
     ensures bounded { λ r. ⌜ r .0 ≤ 3060000000 ⌝ }
 {
@@ -31,14 +32,14 @@ pub fn withdrawal_limit(m: Month, bcq: Dth, carry: Quantity) -> Quantity
 }
 
 pub fn breaks_v4(m: Month, limit: Quantity, net: Units) -> bool
-    requires { ⌜ (limit .0 ≤ 100000000000) × (size net ≤ 100000000000) ⌝ }
+    requires { ⌜ (limit .0 ≤ mostBank) × (size net ≤ mostBank) ⌝ }
     ensures { λ r. ⌜ r ≡ breaksV4 m limit net ⌝ }
 {
     m.winter() & net.opposite().above(limit)
 }
 
 pub fn breaks_v5(d: Date, bcq: Dth, net: Units) -> bool
-    requires { ⌜ (real d ≡ true) × (bcq .0 ≤ 30000000) × (size net ≤ 100000000000) ⌝ }
+    requires { ⌜ (real d ≡ true) × (bcq .0 ≤ mostBcq) × (size net ≤ mostBank) ⌝ }
     ensures { λ r. ⌜ r ≡ breaksV5 d bcq net ⌝ }
 {
     let m = d.month;
@@ -48,7 +49,7 @@ pub fn breaks_v5(d: Date, bcq: Dth, net: Units) -> bool
 }
 
 pub fn breaks_v6(d: Date, bcq: Dth, bank: Units) -> bool
-    requires { ⌜ bcq .0 ≤ 30000000 ⌝ }
+    requires { ⌜ bcq .0 ≤ mostBcq ⌝ }
     ensures { λ r. ⌜ r ≡ breaksV6 d bcq bank ⌝ }
 {
     let in_june = d.is_on(Month::JUNE, 30) & bank.above(Quantity::percent(60, bcq));
@@ -63,7 +64,7 @@ pub fn breaks_v7(bank: Units) -> bool
 }
 
 pub fn breaks_v8(excused: bool, bcq: Dth, bank: Units) -> bool
-    requires { ⌜ bcq .0 ≤ 30000000 ⌝ }
+    requires { ⌜ bcq .0 ≤ mostBcq ⌝ }
     ensures { λ r. ⌜ r ≡ breaksV8 excused bcq bank ⌝ }
 {
     !excused & bank.above(Quantity::percent(102, bcq))
@@ -71,7 +72,7 @@ pub fn breaks_v8(excused: bool, bcq: Dth, bank: Units) -> bool
 
 // Up to the month's minimum for a bank below zero, down to its maximum for one too high.
 pub fn cash(m: Month, excused: bool, bcq: Dth, bank: Units) -> Units
-    requires { ⌜ (bcq .0 ≤ 30000000) × (size bank ≤ 100000000000) ⌝ }
+    requires { ⌜ (bcq .0 ≤ mostBcq) × (size bank ≤ mostBank) ⌝ }
     ensures { λ r. ⌜ r ≡ cashOf m excused bcq bank ⌝ }
     ensures bounded { λ r. ⌜ size r ≤ size bank + 3060000000 ⌝ }
 {
@@ -85,7 +86,7 @@ pub fn cash(m: Month, excused: bool, bcq: Dth, bank: Units) -> Units
 }
 
 pub fn ends_excuse(m: Month, bcq: Dth, bank: Units) -> bool
-    requires { ⌜ bcq .0 ≤ 30000000 ⌝ }
+    requires { ⌜ bcq .0 ≤ mostBcq ⌝ }
     ensures { λ r. ⌜ r ≡ endsExcuse m bcq bank ⌝ }
 {
     !bank.above(Quantity::percent(m.maximum(), bcq))
@@ -93,7 +94,7 @@ pub fn ends_excuse(m: Month, bcq: Dth, bank: Units) -> bool
 
 // max(0, a − q).
 fn excess(a: Units, q: Quantity) -> Quantity
-    requires { ⌜ (size a ≤ 300000000000) × (q .0 ≤ 100000000000) ⌝ }
+    requires { ⌜ (size a ≤ 300000000000) × (q .0 ≤ mostBank) ⌝ }
     ensures { λ r. ⌜ r ≡ excessOver a q ⌝ }
     ensures bounded { λ r. ⌜ r .0 ≤ size a ⌝ }
 {
@@ -102,7 +103,7 @@ fn excess(a: Units, q: Quantity) -> Quantity
 
 // Withdrawn beyond the limit, which the next month's limit is less by; March carries nothing into April.
 pub fn carry(m: Month, limit: Quantity, net: Units) -> Quantity
-    requires { ⌜ (limit .0 ≤ 100000000000) × (size net ≤ 100000000000) ⌝ }
+    requires { ⌜ (limit .0 ≤ mostBank) × (size net ≤ mostBank) ⌝ }
     ensures { λ r. ⌜ r ≡ carryOf m limit net ⌝ }
     ensures bounded { λ r. ⌜ r .0 ≤ size net ⌝ }
 {
@@ -113,7 +114,7 @@ pub fn carry(m: Month, limit: Quantity, net: Units) -> Quantity
 
 // What the end of January or March takes of a bank.
 pub fn forfeit(m: Month, bcq: Dth, bank: Units) -> Quantity
-    requires { ⌜ (bcq .0 ≤ 30000000) × (size bank ≤ 300000000000) ⌝ }
+    requires { ⌜ (bcq .0 ≤ mostBcq) × (size bank ≤ 300000000000) ⌝ }
     ensures { λ r. ⌜ r ≡ forfeitOf m bcq bank ⌝ }
     ensures bounded { λ r. ⌜ r .0 ≤ size bank ⌝ }
 {

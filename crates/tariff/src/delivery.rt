@@ -3,6 +3,7 @@ ghost use mathlib.Core.Path.{_≡_};
 ghost use Prim.Native.Nat.{_≤_};
 ghost use Rattle.tariff.specs.Amounts.{size};
 ghost use Rattle.tariff.specs.Delivery.{retained, daysOfInjection, breaksV1, shareOf, breaksV2};
+ghost use Rattle.tariff.specs.Bounds.{mostBcq, mostMdq, mostRetainage, mostUnits};
 use crate::amounts::Dth;
 use crate::amounts::Quantity;
 use crate::amounts::Units;
@@ -11,9 +12,9 @@ use crate::months::Month;
 
 // What retainage leaves of delivered less back-cast, rounded toward zero.
 pub fn retained(retainage: u64, delivered: Quantity, back_cast: Quantity) -> Units
-    requires { ⌜ (retainage ≤ 9999) × (delivered .0 ≤ 1000000000) × («back_cast» .0 ≤ 1000000000) ⌝ }
+    requires { ⌜ (retainage ≤ mostRetainage) × (delivered .0 ≤ mostUnits) × («back_cast» .0 ≤ mostUnits) ⌝ }
     ensures { λ r. ⌜ r ≡ retained retainage delivered «back_cast» ⌝ }
-    ensures bounded { λ r. ⌜ size r ≤ 1000000000 ⌝ }
+    ensures bounded { λ r. ⌜ size r ≤ mostUnits ⌝ }
 {
     let keep = (10000 - retainage) as i64;
     let difference = (delivered.0 as i64) - (back_cast.0 as i64);
@@ -29,7 +30,7 @@ fn days_of_injection(m: Month) -> u64
 }
 
 pub fn breaks_v1(m: Month, bcq: Dth, amount: Units) -> bool
-    requires { ⌜ (bcq .0 ≤ 30000000) × (size amount ≤ 1000000000) ⌝ }
+    requires { ⌜ (bcq .0 ≤ mostBcq) × (size amount ≤ mostUnits) ⌝ }
     ensures { λ r. ⌜ r ≡ breaksV1 m bcq amount ⌝ }
 {
     let most = Quantity::percent(m.mmbq(), bcq);
@@ -39,7 +40,7 @@ pub fn breaks_v1(m: Month, bcq: Dth, amount: Units) -> bool
 
 // The share of the MDDQ, in percent, that may be withdrawn in a day.
 pub fn share_of(bank: Units, bcq: Dth, back_cast: Quantity, mdq: Dth) -> u64
-    requires { ⌜ (bcq .0 ≤ 30000000) × (mdq .0 ≤ 300000) ⌝ }
+    requires { ⌜ (bcq .0 ≤ mostBcq) × (mdq .0 ≤ mostMdq) ⌝ }
     ensures { λ r. ⌜ r ≡ shareOf bank bcq «back_cast» mdq ⌝ }
     ensures bounded { λ r. ⌜ r ≤ 100 ⌝ }
 {
@@ -51,7 +52,7 @@ pub fn share_of(bank: Units, bcq: Dth, back_cast: Quantity, mdq: Dth) -> u64
 }
 
 pub fn breaks_v2(share: u64, mddq: Dth, amount: Units) -> bool
-    requires { ⌜ (share ≤ 100) × (mddq .0 ≤ 300000) × (size amount ≤ 1000000000) ⌝ }
+    requires { ⌜ (share ≤ 100) × (mddq .0 ≤ mostMdq) × (size amount ≤ mostUnits) ⌝ }
     ensures { λ r. ⌜ r ≡ breaksV2 share mddq amount ⌝ }
 {
     let most = Quantity::percent(share, mddq);

@@ -2,6 +2,7 @@
 ghost use mathlib.Core.Path.{_≡_};
 ghost use Prim.Native.Nat.{_≤_};
 ghost use Rattle.tariff.specs.Enrol.{staysOnFbs, openingTooHigh};
+ghost use Rattle.tariff.specs.Bounds.{mostBcq};
 use crate::amounts::Dth;
 use crate::amounts::Quantity;
 
@@ -12,7 +13,7 @@ pub fn stays_on_fbs(process_only: bool, wishes: bool, mdq: Dth) -> bool
 }
 
 pub fn opening_too_high(opening: Quantity, bcq: Dth) -> bool
-    requires { ⌜ bcq .0 ≤ 30000000 ⌝ }
+    requires { ⌜ bcq .0 ≤ mostBcq ⌝ }
     ensures { λ r. ⌜ r ≡ openingTooHigh opening bcq ⌝ }
 {
     let most = Quantity::percent(25, bcq);

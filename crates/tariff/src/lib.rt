@@ -1,6 +1,7 @@
 // Rider EFBS's arithmetic. Every function is proved equal to a definition in specs/, and the layers above know it by that alone.
 pub mod amounts;
 pub mod bill;
+pub mod bounds;
 mod choice;
 pub mod closing;
 pub mod dates;

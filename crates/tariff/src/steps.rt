@@ -2,6 +2,7 @@
 ghost use mathlib.Core.Path.{_≡_};
 ghost use Prim.Native.Nat.{_≤_};
 ghost use Rattle.tariff.specs.Steps.{stepOf, firstStep, isOver, isUnder, crosses, measured, settledStep, falls};
+ghost use Rattle.tariff.specs.Bounds.{mostMdq};
 use crate::amounts::Dth;
 use crate::choice::choose;
 use crate::choice::larger;
@@ -18,7 +19,7 @@ pub struct Step {
 
 // MDQ / 3,000, rounded up.
 fn step_of(mdq: Dth) -> u64
-    requires { ⌜ mdq .0 ≤ 300000 ⌝ }
+    requires { ⌜ mdq .0 ≤ mostMdq ⌝ }
     ensures { λ r. ⌜ r ≡ stepOf mdq ⌝ }
     ensures bounded { λ r. ⌜ r ≤ 100 ⌝ }
 {
@@ -27,7 +28,7 @@ fn step_of(mdq: Dth) -> u64
 
 impl Step {
     pub fn first(mdq: Dth) -> Step
-        requires { ⌜ mdq .0 ≤ 300000 ⌝ }
+        requires { ⌜ mdq .0 ≤ mostMdq ⌝ }
         ensures { λ r. ⌜ r ≡ firstStep mdq ⌝ }
         ensures bounded { λ r. ⌜ (r .k ≤ 100) × (r .pending ≤ 100) ⌝ }
     {
@@ -42,21 +43,21 @@ impl Step {
 
     // The four tests compare steps and not 3,000 × k, so that no k of a ledger handed in can overflow them.
     fn is_over(self, m: Dth) -> bool
-        requires { ⌜ m .0 ≤ 300000 ⌝ }
+        requires { ⌜ m .0 ≤ mostMdq ⌝ }
         ensures { λ r. ⌜ r ≡ isOver self m ⌝ }
     {
         self.k < (m.0 + 2999) / 3000
     }
 
     fn is_under(self, m: Dth) -> bool
-        requires { ⌜ m .0 ≤ 300000 ⌝ }
+        requires { ⌜ m .0 ≤ mostMdq ⌝ }
         ensures { λ r. ⌜ r ≡ isUnder self m ⌝ }
     {
         m.0 / 3000 + 1 < self.k
     }
 
     fn crosses(self, m: Dth) -> bool
-        requires { ⌜ m .0 ≤ 300000 ⌝ }
+        requires { ⌜ m .0 ≤ mostMdq ⌝ }
         ensures { λ r. ⌜ r ≡ crosses self m ⌝ }
     {
         let third_over = self.is_over(m) & (2 <= self.over);
@@ -68,7 +69,7 @@ impl Step {
 
     // What a measured MDQ makes of the step.
     pub fn measured(self, m: Dth) -> Step
-        requires { ⌜ (m .0 ≤ 300000) × (self .over ≤ 2) × (self .under ≤ 2) ⌝ }
+        requires { ⌜ (m .0 ≤ mostMdq) × (self .over ≤ 2) × (self .under ≤ 2) ⌝ }
         ensures { λ r. ⌜ r ≡ measured self m ⌝ }
     {
         let crosses = self.crosses(m);

@@ -6,7 +6,7 @@ use Prim.Native.Nat.{ℕ, _+_, _*_, _<_, _≤_}
 use mathlib.Core.List.{List}
 use mathlib.Core.Path.{_≡_}
 use lib.ListN.{length}
-use Rattle.archive.specs.Words.{wordAt}
+use Rattle.ledger.specs.Entries.{wordAt}
 use Rattle.archive.specs.Reading.{sectionCount, checked, pairAt, nowhere, placeOf}
 use Rattle.archive.specs.declared.entries.Checked.{Checked}
 use Rattle.archive.specs.declared.reading.Place.{Place}

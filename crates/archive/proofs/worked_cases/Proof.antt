@@ -14,8 +14,7 @@ use Rattle.tariff.specs.Steps.{stepOf, firstStep}
 use Rattle.tariff.specs.Bill.{pricesInRange}
 use Rattle.ledger.specs.Checks.{verdict}
 use Rattle.ledger.specs.Kinds.{lookup, kindOf}
-use Rattle.ledger.specs.Entries as entries
-use Rattle.ledger.specs.Entries.{byteAt, entryOf, termsOf, pricesOf, processOnly, wishes, accountTooHigh, unusedSet, wordsInRange, wrongTransfer, fieldChecks, entryChecks, entryNumber, formNumber}
+use Rattle.ledger.specs.Entries.{byteAt, halfAt, wordAt, entryOf, termsOf, pricesOf, processOnly, wishes, accountTooHigh, unusedSet, wordsInRange, wrongTransfer, fieldChecks, entryChecks, entryNumber, formNumber}
 use Rattle.ledger.specs.State.{noTotals, noMonth, noToday, nobody, fresh, accountAt, asOpen, withBank, withMeasure, withCapacity, withAccount}
 use Rattle.ledger.specs.Ranges.{totalsInRange, stepInRange, accountInRange, everyAccount, inRange}
 use Rattle.ledger.specs.Answers.{quiet, plain, refused, settle}
@@ -24,9 +23,9 @@ use Rattle.ledger.specs.Enrol.{newAccount, enrolled, enrolChecks, enrolment}
 use Rattle.ledger.specs.Days.{wrongDay}
 use Rattle.ledger.specs.Posting.{standingChecks, admission, postSeveral, changeOf, stored, postKind, postEntry, posted}
 use Rattle.ledger.specs.Panel.{openBank, openBanks, panelOf}
-use Rattle.archive.specs.Words.{valueOf, bytesOf, halfAt, wordAt}
+use Rattle.archive.specs.Words.{bytesOf}
 use Rattle.archive.specs.Entries.{firstEntries, entriesOf, closesMonth, finding, firstRefusal}
-use Rattle.archive.specs.Layout.{joined, sectionsOf, together, header, directory, bodyAt, packed, archiveOf}
+use Rattle.archive.specs.Layout.{joined, sectionsOf, concatenated, header, directory, bodyAt, packed, archiveOf}
 use Rattle.archive.specs.Writing.{listChecked, tooLarge, unwritten, written, outputAfter}
 use Rattle.archive.specs.Reading.{sectionCount, rightOpening, wrongHeader, pairAt, pairsFrom, pairsOf, rightLength, rightPairs, rightDirectory, partAt, partsOf, misplaced, numberIn, numbersIn, numbersOf, checked, nowhere, placeOf, sectionAt, listOf}
 use Rattle.archive.specs.Replay.{listIn, entriesIn, countOf, asAccepted, asRefused, replayed, figuresOf}
@@ -57,7 +56,7 @@ sections-closings zero = refl
 sections-closings (suc n) = ap (λ (ss : List (List ℕ)). closeMonth 0 0 0 0 ∷ ss) (sections-closings n)
 
 right-closings : (n i : ℕ) → firstRefusal i (map formNumber (replicate n (closeMonth 0 0 0 0))) ≡ finding 0 0
-unfolding divides leap lengths monthLength real pricesInRange verdict entries.wordAt byteAt entryOf lookup kindOf pricesOf accountTooHigh unusedSet wordsInRange wrongTransfer fieldChecks entryChecks entryNumber formNumber finding firstRefusal
+unfolding divides leap lengths monthLength real pricesInRange verdict byteAt halfAt wordAt entryOf lookup kindOf pricesOf accountTooHigh unusedSet wordsInRange wrongTransfer fieldChecks entryChecks entryNumber formNumber finding firstRefusal
 right-closings zero i = refl
 right-closings (suc n) i = right-closings n (i + 1)
 
@@ -68,7 +67,7 @@ too-many n room h =
     rw (whole, entries-closings n, right-closings n 0, sections-closings n, length-replicate n (closeMonth 0 0 0 0), lt-ltb 1200 n h)
 
 worked : WorkedCases
-unfolding within amountOf withinMills above percent sameMonth april divides leap lengths monthLength real sameDate isOn firstOfGasYear termsInRange mddqOf bcqOf capacityOf staysOnFbs openingTooHigh stepOf firstStep pricesInRange verdict entries.wordAt byteAt entryOf lookup kindOf termsOf pricesOf processOnly wishes accountTooHigh unusedSet wordsInRange wrongTransfer fieldChecks entryChecks entryNumber formNumber noTotals noMonth noToday nobody fresh accountAt asOpen withBank withMeasure withCapacity withAccount totalsInRange stepInRange accountInRange everyAccount inRange quiet plain refused settle reworked termsNext termsChecks postTerms newAccount enrolled enrolChecks enrolment standingChecks wrongDay admission postSeveral changeOf stored postKind postEntry posted openBank openBanks panelOf valueOf bytesOf halfAt wordAt firstEntries entriesOf closesMonth finding firstRefusal joined sectionsOf together header directory bodyAt packed archiveOf listChecked tooLarge unwritten written outputAfter sectionCount rightOpening wrongHeader pairAt pairsFrom pairsOf rightLength rightPairs rightDirectory partAt partsOf misplaced numberIn numbersIn numbersOf checked nowhere placeOf sectionAt listOf listIn entriesIn countOf asAccepted asRefused replayed figuresOf
+unfolding within amountOf withinMills above percent sameMonth april divides leap lengths monthLength real sameDate isOn firstOfGasYear termsInRange mddqOf bcqOf capacityOf staysOnFbs openingTooHigh stepOf firstStep pricesInRange verdict byteAt halfAt wordAt entryOf lookup kindOf termsOf pricesOf processOnly wishes accountTooHigh unusedSet wordsInRange wrongTransfer fieldChecks entryChecks entryNumber formNumber noTotals noMonth noToday nobody fresh accountAt asOpen withBank withMeasure withCapacity withAccount totalsInRange stepInRange accountInRange everyAccount inRange quiet plain refused settle reworked termsNext termsChecks postTerms newAccount enrolled enrolChecks enrolment standingChecks wrongDay admission postSeveral changeOf stored postKind postEntry posted openBank openBanks panelOf bytesOf firstEntries entriesOf closesMonth finding firstRefusal joined sectionsOf concatenated header directory bodyAt packed archiveOf listChecked tooLarge unwritten written outputAfter sectionCount rightOpening wrongHeader pairAt pairsFrom pairsOf rightLength rightPairs rightDirectory partAt partsOf misplaced numberIn numbersIn numbersOf checked nowhere placeOf sectionAt listOf listIn entriesIn countOf asAccepted asRefused replayed figuresOf
 worked =
     record {
       answer = refl;

@@ -7,7 +7,7 @@ use mir.Val.{ofZ, toZ}
 use borrow.Author.Needs.{needs}
 use borrow.Author.Tests.{leb-true}
 use Rattle.tariff.proofs.Bools.{parts}
-use Rattle.nedrulov.specs.Limits.{deliverable, deliveryAmount}
+use Rattle.nedrulov.specs.Amounts.{deliverable, deliveryAmount}
 use Rattle.tariff.specs.Delivery.{retained}
 use Rattle.tariff.specs.declared.amounts.Units.{Units}
 use Rattle.nedrulov.proofs.nedrulov_amount.Statement.{statement}

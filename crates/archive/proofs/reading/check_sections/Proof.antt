@@ -8,7 +8,7 @@ use mathlib.Core.List.{List, map}
 use mathlib.Core.Path.{_≡_, _∙_}
 use lib.Dec.{eqb}
 use lib.ListN.{length, take, drop}
-use Rattle.archive.specs.Words.{wordAt}
+use Rattle.ledger.specs.Entries.{wordAt}
 use Rattle.archive.specs.Reading.{pairAt, pairsFrom, pairsOf, partAt, partsOf, numbersIn, numbersOf, sectionCount, rightDirectory}
 use Rattle.archive.specs.Entries.{entriesOf, firstRefusal, finding}
 use Rattle.archive.specs.declared.entries.Checked.{Checked}

@@ -9,7 +9,7 @@ use mathlib.Core.Path.{_≡_}
 use lib.Dec.{eqb, ltb}
 use lib.ListN.{length}
 use Rattle.archive.specs.Layout.{bodyAt}
-use Rattle.archive.specs.Words.{wordAt}
+use Rattle.ledger.specs.Entries.{wordAt}
 use Rattle.archive.specs.Reading.{pairAt, pairsFrom, pairsOf, rightLength, rightPairs, rightDirectory, sectionCount, wrongHeader}
 use Rattle.archive.proofs.Headers.{Measured, measured}
 use Rattle.archive.proofs.Pairs.{pairs-next, pairs-none}

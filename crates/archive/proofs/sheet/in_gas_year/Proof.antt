@@ -1,9 +1,8 @@
 -- From April on the gas year is the date's own year, before it the one before: no year is before year 0.
-use Rattle.archive.proofs.Numbers.{half-read}
-use Rattle.archive.specs.Words.{halfAt}
+use Rattle.ledger.specs.Entries.{halfAt}
 use Rattle.archive.specs.YearSheet.{inGasYear}
 use Rattle.ledger.specs.Entries.{entryOf}
-use Rattle.ledger.proofs.Fields.{year-bytes, month-byte}
+use Rattle.ledger.proofs.Fields.{year-half, month-byte}
 use borrow.Author.Tests.{le-leb, lt-leb, ne-eqb}
 use native.Mathlib.Numerals.{add-one}
 use native.Mathlib.Omega.{arith}
@@ -25,7 +24,7 @@ before (suc n) year h =
 
 module _ (s : List ℕ) (year dated : ℕ) (h : length s ≡ 32) (p : dated ≡ halfAt s 4) where
   date : entryOf s .date .year ≡ dated
-  date = year-bytes s ∙ sym (p ∙ half-read s 4 (omega arith))
+  date = year-half s ∙ sym p
 
   from-april : 4 ≤ getD s 6 0 → eqb dated year ≡ inGasYear year (entryOf s .date)
   unfolding inGasYear

@@ -1,7 +1,7 @@
 -- The sheet so far, carried over the entries from k on, is the sheet of all: posting entry k and noting it carries the sheet over one more.
 use Rattle.archive.proofs.Grids.{grid-cells, sheetAfter, after-none, after-next, after-all}
 use Rattle.archive.proofs.EntryLists.{entries-next, entries-none}
-use Rattle.archive.specs.YearSheet.{grid, nothing, cellAt, bankIn, closesIn, cellAfter}
+use Rattle.archive.specs.YearSheet.{grid, noBank, cellAt, bankIn, closesIn, cellAfter}
 use Rattle.archive.specs.Entries.{entriesOf, firstEntries}
 use Rattle.ledger.specs.State.{fresh}
 use Rattle.ledger.specs.Posting.{posted}
@@ -23,7 +23,7 @@ record Rest (s : List ℕ) (year n : ℕ) (l : Ledger) (sheet : List (List Units
   within : k ≤ n
   all : n ≡ length s / 32
   cells : sheet ≡ grid (cellAt sheet)
-  same : sheetAfter year sheet l (firstEntries (n - k) (drop (32 * k) s)) ≡ grid (λ i m. cellAfter year i m nothing fresh (entriesOf s))
+  same : sheetAfter year sheet l (firstEntries (n - k) (drop (32 * k) s)) ≡ grid (λ i m. cellAfter year i m noBank fresh (entriesOf s))
 
 abbrev Inv-loop : tie.InvT-loop
 Inv-loop list year n ledger₀ sheet₀ k₀ ledger sheet k = Rest list year n ledger sheet k
@@ -31,14 +31,14 @@ Inv-loop list year n ledger₀ sheet₀ k₀ ledger sheet k = Rest list year n l
 abbrev μ-loop : tie.MeasureT-loop
 μ-loop list year n ledger₀ sheet₀ k₀ ledger sheet k = n - k
 
-at-first : (s : List ℕ) (year : ℕ) (l : Ledger) (sheet : List (List Units)) → l ≡ fresh → sheet ≡ grid (λ i m. nothing) → Rest s year (length s / 32) l sheet 0
+at-first : (s : List ℕ) (year : ℕ) (l : Ledger) (sheet : List (List Units)) → l ≡ fresh → sheet ≡ grid (λ i m. noBank) → Rest s year (length s / 32) l sheet 0
 unfolding entriesOf
 at-first s year l sheet e f =
     let z : length s / 32 - 0 ≡ length s / 32 = omega arith in
-    record { within = omega arith; all = refl; cells = grid-cells (λ i m. nothing) sheet f; same = rw z (after-all year sheet l (firstEntries (length s / 32) s) f e) }
+    record { within = omega arith; all = refl; cells = grid-cells (λ i m. noBank) sheet f; same = rw z (after-all year sheet l (firstEntries (length s / 32) s) f e) }
 
 module _ (s : List ℕ) (year n : ℕ) (l : Ledger) (sheet : List (List Units)) (k : ℕ) (r : Rest s year n l sheet k) where
-  all-noted : n ≤ k → sheet ≡ grid (λ i m. cellAfter year i m nothing fresh (entriesOf s))
+  all-noted : n ≤ k → sheet ≡ grid (λ i m. cellAfter year i m noBank fresh (entriesOf s))
   all-noted h = sym (after-none year sheet l (r .cells)) ∙ (rw (entries-none n k (drop (32 * k) s) h) at (r .same))
 
   abbrev entry : List ℕ

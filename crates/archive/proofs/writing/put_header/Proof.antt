@@ -5,7 +5,7 @@ use Prim.Native.Nat.{_/_, _%_}
 use mathlib.Core.List.{[], _∷_, _++_}
 use lib.Seq.{sets-eq}
 use lib.ListN.{length-set}
-use Rattle.archive.specs.Layout.{opening, header}
+use Rattle.archive.specs.Layout.{openingBytes, header}
 use Rattle.archive.specs.Words.{bytesOf}
 use Rattle.archive.proofs.writing.put_header.Statement.{statement}
 use Rattle.archive.proofs.writing.put_header.Tie as tie
@@ -15,7 +15,7 @@ unfolding header bytesOf
 returns c =
     let s : tie.Start = search in
     let n = s .args .count in
-    sets-eq (opening ++ n % 256 ∷ n / 256 % 256 ∷ 0 ∷ 0 ∷ []) (s .args .out .now) 0 (omega arith)
+    sets-eq (openingBytes ++ n % 256 ∷ n / 256 % 256 ∷ 0 ∷ 0 ∷ []) (s .args .out .now) 0 (omega arith)
 
 pub put-header-spec : {M : Type 1} → statement M
 put-header-spec =

@@ -5,7 +5,7 @@ use mathlib.Core.Bool.{true}
 use mathlib.Core.Path.{_≡_}
 use Rattle.tariff.specs.declared.bill.Prices.{Prices}
 use Rattle.tariff.specs.declared.terms.Terms.{Terms}
-use Rattle.ledger.specs.Closing.{closedAccount, closedDay, closedMonth}
+use Rattle.ledger.specs.Closing.{closingOf, dayClosing, monthClosing}
 use Rattle.ledger.specs.Entries.{pricesOf}
 use Rattle.ledger.specs.declared.closing.Closed.{Closed}
 use Rattle.ledger.specs.declared.entries.Entry.{Entry}
@@ -14,12 +14,12 @@ use Rattle.ledger.proofs.closing.close_account.Statement.{statement}
 use Rattle.ledger.proofs.closing.close_account.Tie as tie
 
 module _ (t : Terms) (e : Entry) (a : Account) (open′ : a .opened ≡ true) (r : Closed) where
-  for-month : e .kind ≡ 9 → (p : Prices) → p ≡ pricesOf e → r ≡ closedMonth (e .date) t p a → r ≡ closedAccount t e a
-  unfolding closedAccount
+  for-month : e .kind ≡ 9 → (p : Prices) → p ≡ pricesOf e → r ≡ monthClosing (e .date) t p a → r ≡ closingOf t e a
+  unfolding closingOf
   for-month k p q h = cc (eq-eqb (e .kind) 9 k)
 
-  for-day : (e .kind ≡ 9 → ⊥) → r ≡ closedDay (e .date) a → r ≡ closedAccount t e a
-  unfolding closedAccount
+  for-day : (e .kind ≡ 9 → ⊥) → r ≡ dayClosing (e .date) a → r ≡ closingOf t e a
+  unfolding closingOf
   for-day k h = cc (ne-eqb (e .kind) 9 k)
 
 close-month-requires : tie.Need-close-month-requires

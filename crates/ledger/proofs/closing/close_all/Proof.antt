@@ -11,7 +11,7 @@ use Rattle.ledger.proofs.Bounded.{account-ranged, begun-ranged}
 use Rattle.ledger.proofs.Lists.{every-end, every-next, every-pass, filled, filled-end, filled-kept, filled-next, length-mapped, withAccounts}
 use Rattle.ledger.proofs.RightEntries.{prices-fit}
 use Rattle.ledger.specs.Answers.{quiet}
-use Rattle.ledger.specs.Closing.{accountClosed, closed, closedAccount, notOpen, reportOf, staysInRange}
+use Rattle.ledger.specs.Closing.{afterClosing, closed, closingOf, notOpen, reportOf, staysInRange}
 use Rattle.ledger.specs.Ranges.{accountInRange, everyAccount}
 use Rattle.ledger.specs.State.{accountAt, noMonth, noToday, noTotals, nobody}
 use Rattle.tariff.specs.Dates.{real}
@@ -29,7 +29,7 @@ use Rattle.ledger.proofs.closing.close_all.Tie as tie
 
 module _ (l : Ledger) (e : Entry) (i : ℕ) where
   abbrev accountsTo : Ledger
-  accountsTo = withAccounts l (filled (accountClosed (l .terms) e) (l .accounts) (l .accounts) i)
+  accountsTo = withAccounts l (filled (afterClosing (l .terms) e) (l .accounts) (l .accounts) i)
 
   abbrev reportsTo : List Report
   reportsTo = filled (reportOf (l .terms) e) (l .accounts) (replicate 16 quiet) i
@@ -51,29 +51,29 @@ abbrev μ-loop : tie.MeasureT-loop
 
 module _ (l : Ledger) (e : Entry) (i : ℕ) (n : length (l .accounts) ≡ 16) (h : i < 16) where
   -- an open account is closed
-  open-stored : (next r : Ledger) (one : Closed) → r ≡ withAccounts next (set (next .accounts) i (one .account)) → next ≡ accountsTo l e i → one ≡ closedAccount (l .terms) e (accountAt l i) → r ≡ accountsTo l e (i + 1)
-  unfolding accountAt accountClosed
-  open-stored next r one q v p = cc (filled-next (accountClosed (l .terms) e) (l .accounts) (l .accounts) i nobody refl (omega arith))
+  open-stored : (next r : Ledger) (one : Closed) → r ≡ withAccounts next (set (next .accounts) i (one .account)) → next ≡ accountsTo l e i → one ≡ closingOf (l .terms) e (accountAt l i) → r ≡ accountsTo l e (i + 1)
+  unfolding accountAt afterClosing
+  open-stored next r one q v p = cc (filled-next (afterClosing (l .terms) e) (l .accounts) (l .accounts) i nobody refl (omega arith))
 
-  open-reported : (reports r : List Report) (one : Closed) → r ≡ set reports i (one .report) → reports ≡ reportsTo l e i → one ≡ closedAccount (l .terms) e (accountAt l i) → r ≡ reportsTo l e (i + 1)
+  open-reported : (reports r : List Report) (one : Closed) → r ≡ set reports i (one .report) → reports ≡ reportsTo l e i → one ≡ closingOf (l .terms) e (accountAt l i) → r ≡ reportsTo l e (i + 1)
   unfolding accountAt reportOf
   open-reported reports r one q v p = cc (filled-next (reportOf (l .terms) e) (l .accounts) (replicate 16 quiet) i nobody (omega arith) (omega arith))
 
   open-stays : (fits day end r : Bool) (one : Closed) → r ≡ fits && (day && end) → Agrees l i (staysInRange (l .terms) e) fits → day ≡ accountInRange (one .day) → end ≡ accountInRange (one .account)
-      → one ≡ closedAccount (l .terms) e (accountAt l i) → Agrees l (i + 1) (staysInRange (l .terms) e) r
+      → one ≡ closingOf (l .terms) e (accountAt l i) → Agrees l (i + 1) (staysInRange (l .terms) e) r
   unfolding accountAt staysInRange
   open-stays fits day end r one q v x y p = cc (every-next (staysInRange (l .terms) e) (l .accounts) i nobody fits (omega arith))
 
   -- one that is not open stays as it is, and has nothing to report
   module _ (o : accountAt l i .opened ≡ false) where
-    shut : closedAccount (l .terms) e (accountAt l i) ≡ notOpen (accountAt l i)
-    unfolding closedAccount
+    shut : closingOf (l .terms) e (accountAt l i) ≡ notOpen (accountAt l i)
+    unfolding closingOf
     shut = rw o
 
     shut-stored : (next r : Ledger) → next ≡ accountsTo l e i → r ≡ next → r ≡ accountsTo l e (i + 1)
-    unfolding accountAt accountClosed notOpen
+    unfolding accountAt afterClosing notOpen
     shut-stored next r v q =
-        q ∙ v ∙ ap (withAccounts l) (filled-kept (accountClosed (l .terms) e) (l .accounts) (l .accounts) i nobody nobody refl (omega arith) (ap (λ (c : Closed). c .account) shut))
+        q ∙ v ∙ ap (withAccounts l) (filled-kept (afterClosing (l .terms) e) (l .accounts) (l .accounts) i nobody nobody refl (omega arith) (ap (λ (c : Closed). c .account) shut))
 
     shut-reported : (reports r : List Report) → reports ≡ reportsTo l e i → r ≡ reports → r ≡ reportsTo l e (i + 1)
     unfolding accountAt reportOf notOpen
@@ -138,7 +138,7 @@ returns c =
     let i = v .loop .i in
     let n : length (l .accounts) ≡ 16 = sixteen s in (
       (
-        rw (v .loop .inv .1, c .day-after .ensures, filled-end (accountClosed (l .terms) e) (l .accounts) (l .accounts) i (omega (arith, n)) (omega (arith, n))),
+        rw (v .loop .inv .1, c .day-after .ensures, filled-end (afterClosing (l .terms) e) (l .accounts) (l .accounts) i (omega (arith, n)) (omega (arith, n))),
         v .loop .inv .2 ∙ filled-end (reportOf (l .terms) e) (l .accounts) (replicate 16 quiet) i (omega (arith, n)) (omega arith),
       ),
       sym (every-end (staysInRange (l .terms) e) (l .accounts) i (v .loop .fits) (omega (arith, n))) ∙ v .loop .inv .3,

@@ -1,7 +1,7 @@
 -- The three parts of a day's closing stand in the order of the rules: violations, then cash, then the account after both.
 use borrow.Author.Needs.{needs}
 use Rattle.ledger.proofs.Bounded.{Bounded, bounded}
-use Rattle.ledger.specs.Closing.{closedDay, dayClosed}
+use Rattle.ledger.specs.Closing.{dayClosing, afterDay}
 use Rattle.ledger.proofs.closing.close_day.Statement.{statement}
 use Rattle.ledger.proofs.closing.close_day.Tie as tie
 
@@ -9,7 +9,7 @@ known : (s : tie.Start) → Bounded (s .args .a)
 known s = bounded (s .args .a) (s .pre .1)
 
 returns : tie.Need-returns
-unfolding closedDay dayClosed
+unfolding dayClosing afterDay
 returns c = rw (
   (let at : tie.After-day-end = search in at .day-end .ensures),
   (let at : tie.After-cash-at = search in at .cash-at .ensures .0),

@@ -3,7 +3,7 @@ use borrow.Author.Needs.{needs}
 use Rattle.ledger.proofs.Closable.{Closable, closable}
 use Rattle.ledger.proofs.Bounded.{bounded, stepped}
 use Rattle.tariff.proofs.Laws.{settled-k}
-use Rattle.ledger.specs.Closing.{billAt, closedMonth, dayClosed, dayEnd, forfeitAt, limitOf, monthClosed, nextCapacity}
+use Rattle.ledger.specs.Closing.{billAt, monthClosing, afterDay, dayEnd, forfeitAt, limitOf, afterMonth, nextCapacity}
 use Rattle.ledger.specs.State.{withBank, withDays, withExcuse, withMonth, withToday, withTotals}
 use Rattle.ledger.proofs.closing.close_month.Statement.{statement}
 use Rattle.ledger.proofs.closing.close_month.Tie as tie
@@ -40,7 +40,7 @@ month-end-requires : tie.Need-month-end-requires
 month-end-requires c κs = search (needs, left (search))
 
 returns : tie.Need-returns
-unfolding closedMonth monthClosed dayClosed billAt forfeitAt nextCapacity dayEnd limitOf withToday withDays withExcuse withTotals withMonth withBank
+unfolding monthClosing afterMonth afterDay billAt forfeitAt nextCapacity dayEnd limitOf withToday withDays withExcuse withTotals withMonth withBank
 returns c = rw (
   (let at : tie.After-month-end = search in at .month-end .ensures),
   (let at : tie.After-forfeit = search in at .forfeit .ensures .0),

@@ -1,9 +1,0 @@
--- A refused posting has its number, nothing to report of any account, and the ledger as it was.
-use borrow.Author.Needs.{needs}
-use Rattle.ledger.specs.Answers.{plain, refused}
-use Rattle.ledger.proofs.answers.refused.Statement.{statement}
-use Rattle.ledger.proofs.answers.refused.Tie as tie
-
-pub refused-spec : {M : Type 1} → statement M
-unfolding refused plain
-refused-spec = tie.close (tie.spec (λ c κs. search needs) (λ c. rw (c .quiet .ensures)))
