@@ -127,7 +127,7 @@ static void archive_calls(const uint8_t *archive, size_t length, const uint8_t *
     expect(cells[NEDRULOV_CELLS] == 0x5A5A5A5A5A5A5A5A, "a cell past the sheet changed", 0);
 }
 
-/* Document 01's first and third marked cases, and what lies outside every range. */
+/* R82: the amounts that R31 works out, the band's ends of R36, and what lies outside every range. */
 static void limits(void)
 {
     expect(nedrulov_amount(150, 1000, 0) == 985 && nedrulov_amount(150, 0, 1001) == -985, "amount", 0);

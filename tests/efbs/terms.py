@@ -1,4 +1,4 @@
-"""The statement's terms added up from the sample's text by another program: entry by entry as document 01's demand 3 has
+"""The statement's terms added up from the sample's text by another program: entry by entry as R62 counts
 them, with refusals, cash, forfeits and bills as the log tells them. So a movement under a wrong name is noticed too."""
 
 import re

@@ -1,3 +1,4 @@
+-- The archive: its bytes, its writer and its reader, what its replay leaves, and that both directions fit each other.
 pub mod Words
 pub mod Entries
 pub mod Layout

@@ -1,4 +1,4 @@
--- An archive's entries, posted in order to a fresh ledger. "State refusals are archived too."
+-- An archive's entries posted in order to a fresh ledger; those that it refuses are in the archive too, and are refused again.
 use Prim.Native.Nat.{ℕ, _+_, _<_}
 use mathlib.Core.Path.{_≡_}
 use mathlib.Core.Bool.{Bool, cond}
@@ -13,24 +13,27 @@ use Rattle.archive.specs.Reading.{checked, listOf}
 use Rattle.archive.specs.declared.replaying.Replay.{Replay}
 use Rattle.archive.specs.declared.replaying.Figures.{Figures}
 
--- the list in an archive; empty where it is refused
+-- R77: the list in an archive, an empty one if the archive is refused.
 unfoldable pub listIn : List ℕ → List ℕ
 listIn a = cond (eqb (checked a .number) 0) (listOf a) []
 
+-- R77: its entries.
 unfoldable pub entriesIn : List ℕ → List (List ℕ)
 entriesIn a = entriesOf (listIn a)
 
--- how many lines count, each as 1 or 0
+-- R77: a count over postings, each as 1 or 0.
 unfoldable pub countOf : (Line → ℕ) → List Line → ℕ
 countOf f [] = 0
 countOf f (x ∷ xs) = f x + countOf f xs
 
+-- R77: accepted and refused postings.
 unfoldable pub asAccepted : Line → ℕ
 asAccepted x = cond (isAccepted x) 1 0
 
 unfoldable pub asRefused : Line → ℕ
 asRefused x = cond (isAccepted x) 0 1
 
+-- R77: the reader's finding, the counts and the last ledger.
 unfoldable pub replayed : List ℕ → Replay
 replayed a =
     record {
@@ -41,7 +44,7 @@ replayed a =
       ledger = run fresh (entriesIn a);
     }
 
--- "accepted count, refused count, panel figure", or the archive's number and index
+-- R77: the same with the panel's figure for the ledger, which is what the panel program prints (R81).
 unfoldable pub figuresOf : List ℕ → Figures
 figuresOf a =
     record {
@@ -52,23 +55,27 @@ figuresOf a =
       figure = panelOf (replayed a .ledger) .figure;
     }
 
--- ---- demand 3, of every archive: the claims over every list hold of what the archive holds
+-- ---- what holds of every list holds of what an archive holds
 
+-- R78: the accepted postings of an archive.
 abbrev pub acceptedOf : List ℕ → List Line
 acceptedOf a = accepted (history fresh (entriesIn a))
 
+-- R78: R63, of banks and of the figure.
 abbrev pub BanksAddUp : Type 0
 BanksAddUp = (a : List ℕ) (i : ℕ) → i < 16 → bankOf (replayed a .ledger) i ≡ bankSum i (acceptedOf a)
 
 abbrev pub FigureAddsUp : Type 0
 FigureAddsUp = (a : List ℕ) → figuresOf a .figure ≡ record { 0 = figureSum (acceptedOf a) }
 
+-- R78: R64, of debts and of violation days.
 abbrev pub DebtsAddUp : Type 0
 DebtsAddUp = (a : List ℕ) (i : ℕ) → i < 16 → owedOf (replayed a .ledger) i ≡ total (billed i) start (acceptedOf a)
 
 abbrev pub DaysAddUp : Type 0
 DaysAddUp = (a : List ℕ) (i : ℕ) → i < 16 → daysOf (replayed a .ledger) i ≡ total (violated i) start (acceptedOf a)
 
+-- R78: R65.
 abbrev pub StrikingChangesNothing : Type 0
 StrikingChangesNothing =
     (a : List ℕ) (marks : List Bool)

@@ -1,4 +1,4 @@
--- Demand 2, of archives: "A list that the writer accepts reads back as that list; every archive accepted is the one that the writer makes of its entries."
+-- There is one archive for each list, and one list in each archive.
 use Prim.Native.Nat.{ℕ, _<_, _≤_}
 use mathlib.Core.Path.{_≡_}
 use mathlib.Core.List.{List, []}
@@ -8,11 +8,11 @@ use Rattle.archive.specs.Layout.{mostBytes, sectionsOf, concatenated, ar
 use Rattle.archive.specs.Writing.{written}
 use Rattle.archive.specs.Reading.{sectionCount, checked, sectionAt, listOf}
 
--- bytes, as memory holds them
+-- R76: numbers that memory holds as bytes.
 abbrev pub Bytes : List ℕ → Type 0
 Bytes bytes = (i : ℕ) → getD bytes i 0 < 256
 
--- a list that the writer accepts, whatever the room: the reader accepts its archive, and reads the list, whole and section by section
+-- R76: the archive of a list is accepted, and gives the list back, whole and section by section.
 pub record Read (list : List ℕ) : Type 0 where
   pub accepted : checked (archiveOf list) ≡ finding 0 0
   pub whole : listOf (archiveOf list) ≡ list
@@ -20,14 +20,16 @@ pub record Read (list : List ℕ) : Type 0 where
   pub sections : (i : ℕ) → i < length (sectionsOf (entriesOf list)) → sectionAt (archiveOf list) i ≡ getD (sectionsOf (entriesOf list)) i []
   pub joined : concatenated (sectionsOf (entriesOf list)) ≡ list
 
+-- R76: this holds of every list that the writer accepts, whatever the room.
 abbrev pub ReadsBack : Type 0
 ReadsBack = (list : List ℕ) (room : ℕ) → written list room .number ≡ 0 → Read list
 
--- an archive that the reader accepts: the writer makes it of its entries, wherever there is room for it
+-- R76: an archive is what the writer makes of its entries, given room enough.
 pub record Remade (a : List ℕ) : Type 0 where
   pub same : archiveOf (listOf a) ≡ a
   pub answer : (room : ℕ) → length a ≤ room → written (listOf a) room ≡ record { number = 0; index = 0; length = length a }
   pub fits : length a ≤ mostBytes
 
+-- R76: this holds of every archive that the reader accepts.
 abbrev pub WritesBack : Type 0
 WritesBack = (a : List ℕ) → Bytes a → checked a .number ≡ 0 → Remade a

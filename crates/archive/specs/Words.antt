@@ -1,8 +1,8 @@
--- "little-endian, unsigned": numbers in bytes, the low byte first.
+-- Numbers as bytes.
 use Prim.Native.Nat.{ℕ, zero, suc, _/_, _%_}
 use mathlib.Core.List.{List, [], _∷_}
 
--- a number in so many bytes
+-- R68: a number in so many bytes, the lowest first; the ledger's halfAt and wordAt read them back.
 unfoldable pub bytesOf : ℕ → ℕ → List ℕ
 bytesOf zero n = []
 bytesOf (suc width) n = n % 256 ∷ bytesOf width (n / 256)

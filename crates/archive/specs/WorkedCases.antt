@@ -1,4 +1,4 @@
--- One short list and archives with one thing wrong, worked through: no writer or reader that refuses everything, and none that reads another format, meets these.
+-- A short list and archives with one fault each: no writer or reader that refuses everything, or has another format, meets these.
 use Prim.Native.Nat.{ℕ, zero, suc}
 use mathlib.Core.Path.{_≡_}
 use mathlib.Core.List.{List, [], _∷_, _++_}
@@ -10,40 +10,42 @@ use Rattle.archive.specs.Writing.{unwritten, written, outputAfter}
 use Rattle.archive.specs.Reading.{checked, nowhere, placeOf, sectionAt}
 use Rattle.archive.specs.Replay.{figuresOf}
 
--- TERMS, and ENROL of account 0 with MDQ 4,200 and an opening of 1,000
+-- R83: the terms of all examples, and account 0 with MDQ 4,200 and an opening of 1,000.
 abbrev pub list : List ℕ
 list = terms ++ enrol 2 4200 1000
 
--- an archive of one section, its bytes written out up to the section: opening, count, two zeros, and a directory pair
+-- R83: an archive of one section, its head and its only pair written out byte by byte.
 abbrev pub oneSection : ℕ → ℕ → List ℕ → List ℕ
 oneSection version length section =
     69 ∷ 70 ∷ 66 ∷ version ∷ 1 ∷ 0 ∷ 0 ∷ 0 ∷ 16 ∷ 0 ∷ 0 ∷ 0 ∷ length ∷ 0 ∷ 0 ∷ 0 ∷ section
 
+-- R83: the archive of that list.
 abbrev pub archive : List ℕ
 archive = oneSection 49 64 list
 
--- as many months closed, and nothing else posted
+-- R83: so many months closed, and nothing else.
 abbrev pub closings : ℕ → List ℕ
 closings zero = []
 closings (suc n) = closeMonth 0 0 0 0 ++ closings n
 
+-- R83: the cases.
 pub record WorkedCases : Type 0 where
-  -- the list is written, and the byte past its archive stays
+  -- R75: the list is written, and the byte past its archive stays.
   pub answer : written list 81 ≡ record { number = 0; index = 0; length = 80 }
   pub output : outputAfter list (replicate 81 7) ≡ archive ++ 7 ∷ []
-  -- it reads back, and figures as two accepted, none refused, 1,000 in bank
+  -- R73, R74 and R77: it is read back: two accepted, none refused, 1,000 in bank.
   pub read : checked archive ≡ finding 0 0
   pub section : sectionAt archive 0 ≡ list
   pub figures : figuresOf archive ≡ record { number = 0; index = 0; accepted = 2; refused = 0; figure = record { 0 = pos 1000 } }
-  -- 8: the fourth opening byte is another
+  -- R71: the fourth of the first bytes is another.
   pub number8 : checked (oneSection 48 64 list) ≡ finding 8 0
-  -- 9: the pair is an entry short of the file's end
+  -- R72: the pair ends an entry before the file.
   pub number9 : checked (oneSection 49 32 list) ≡ finding 9 0
-  -- 10: a month is closed before the section's last entry, which is the first entry's fault
+  -- R73: a month is closed before the section's last entry; the entry that closes it is at fault.
   pub number10 : checked (oneSection 49 64 (closeMonth 0 0 0 0 ++ terms)) ≡ finding 10 0
-  -- 11: one section too many
+  -- R75: one section too many.
   pub number11 : written (closings 1201) 100000 ≡ unwritten 11 0
-  -- 12: one byte too short, and untouched
+  -- R75: the output is one byte too short, and keeps its bytes.
   pub number12 : (written list 79 ≡ unwritten 12 0) × (outputAfter list (replicate 79 7) ≡ replicate 79 7)
-  -- 13: there is no second section
+  -- R74: there is no second section.
   pub number13 : (placeOf archive 1 ≡ nowhere 13 0) × (sectionAt archive 1 ≡ [])

@@ -1,4 +1,4 @@
--- "The writer checks the list, then 11, 12, and fills each section in the part of the output that begins at its offset; bytes past the archive stay."
+-- The writer: it checks list and room before it writes a byte.
 use Prim.Native.Nat.{ℕ, _%_}
 use mathlib.Core.Bool.{Bool, cond, _||_}
 use mathlib.Core.List.{List, _++_, map}
@@ -10,18 +10,19 @@ use Rattle.archive.specs.Layout.{mostBytes, mostSections, sectionsOf, ar
 use Rattle.archive.specs.declared.entries.Checked.{Checked}
 use Rattle.archive.specs.declared.writing.Written.{Written}
 
--- the first entry that gets one of 2 to 7
+-- R75: the first entry that gets 2 to 7.
 unfoldable pub listChecked : List ℕ → Checked
 listChecked list = firstRefusal 0 (map formNumber (entriesOf list))
 
--- "over 1,200 sections or 2^32 − 1 bytes"
+-- R75: more sections or bytes than the reader would take (R71).
 unfoldable pub tooLarge : List ℕ → Bool
 tooLarge list = ltb mostSections (length (sectionsOf (entriesOf list))) || ltb mostBytes (length (archiveOf list))
 
+-- R75: a refusal has no length.
 unfoldable pub unwritten : ℕ → ℕ → Written
 unwritten number index = record { number = number; index = index; length = 0 }
 
--- what the writer answers, given the length of the output; "1: a list: no multiple of 32"; "12 output too short"
+-- R75: 1, then 2 to 7, 11 and 12, given the output's length.
 unfoldable pub written : List ℕ → ℕ → Written
 written list room =
     cond (eqb (length list % 32) 0)
@@ -32,7 +33,7 @@ written list room =
     (unwritten (listChecked list .number) (listChecked list .index)))
     (unwritten 1 0)
 
--- the output then: untouched where refused, else the archive, and past it what was there
+-- R75: the archive at the output's start and the rest as it was; a refusal writes nothing.
 unfoldable pub outputAfter : List ℕ → List ℕ → List ℕ
 outputAfter list out =
     cond (eqb (written list (length out) .number) 0) (archiveOf list ++ drop (length (archiveOf list)) out) out

@@ -141,13 +141,13 @@ pub fn year_sheet(archive: &[u8], year: u64) -> [[Units; 12]; 16]
     sheet_of(list, year)
 }
 
-// Demand 2, of every list and every archive: specs/RoundTrips.antt has both directions in words.
+// R76, of every list and every archive: specs/RoundTrips.antt has both directions in words.
 pub fn round_trips()
     ensures reads_back { λ r. ⌜ ReadsBack ⌝ }
     ensures writes_back { λ r. ⌜ WritesBack ⌝ }
 {}
 
-// Demand 3, of every archive: what `history::every_history` claims of every list holds of the entries that an archive holds.
+// R78: what `history::every_history` claims of every list holds of the entries that an archive holds.
 pub fn every_archive()
     ensures banks { λ r. ⌜ BanksAddUp ⌝ }
     ensures figure { λ r. ⌜ FigureAddsUp ⌝ }

@@ -105,7 +105,7 @@ fn fill_section(out: &mut [u8], section: &[u8])
     bytes::copy(section, out);
 }
 
-// Each section in the part of the output that begins at its offset.
+// The sections one by one, each at its own offset of the output (R70).
 fn put_sections(out: &mut [u8], list: &[u8], body: usize)
     requires { ⌜ (length (now list) % 32 ≡ 0) × (body + length (now list) ≤ length (now out)) ⌝ }
     ensures { λ _. ⌜ now (out .exit) ≡ paste (now (out .entry)) body (now (list .entry)) (length (now (list .entry))) ⌝ }

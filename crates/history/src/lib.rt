@@ -1,4 +1,4 @@
-// Demand 3: whatever list of postings a fresh ledger gets, anyone can add up what it holds at the end.
+// R61 to R65: whatever list of postings a fresh ledger gets, anyone can add up what it holds at the end.
 ghost use Rattle.history.specs.History.{BanksAddUp, PanelAddsUp, DebtsAddUp, DaysAddUp, StrikingChangesNothing, OnlyClosingsCount};
 
 // For every list of postings to a fresh ledger: specs/History.antt has each claim in words.

@@ -1,13 +1,13 @@
--- "Number 0 is acceptance. Checks run in ascending order."
+-- Faults are looked for one after the other, and the first that is found gives the number.
 use Prim.Native.Nat.{ℕ}
 use mathlib.Core.Bool.{Bool, cond}
 use mathlib.Core.List.{List, [], _∷_}
 
--- whether something is wrong, and the number that says so
+-- R15: whether a test finds its fault, and the number of that fault.
 abbrev pub Check : Type 0
 Check = Bool × ℕ
 
--- the number of the first check that finds something wrong, or 0
+-- R15, and R22 and R23 after it: the number of the first test that finds its fault; 0 if none does.
 unfoldable pub verdict : List Check → ℕ
 verdict [] = 0
 verdict (c ∷ cs) = cond (c .0) (c .1) (verdict cs)

@@ -1,4 +1,4 @@
--- "Both closings, for each open account: V3 … V8. Then V7: cash-in up to minimum × BCQ. V8: cash-out down to maximum × BCQ. Any V adds one violation day. If bank ≤ maximum × BCQ the excuse ends. The date moves on a day; marks of the day clear."
+-- A closing: violations, cash and, as a month ends, the bill, for each open account by itself; then it is the next day.
 use Prim.Native.Nat.{ℕ, _+_}
 use mathlib.Core.Bool.{Bool, false, cond, not, _&&_, _||_}
 use mathlib.Core.List.{List, [], _∷_, map}
@@ -32,12 +32,13 @@ use Rattle.ledger.specs.declared.answers.Report.{Report}
 use Rattle.ledger.specs.declared.answers.Posted.{Posted}
 use Rattle.ledger.specs.declared.closing.Closed.{Closed}
 
--- ---- what both closings do to an open account, d being the day closed
+-- ---- the day's part (R44, steps 1 to 5); d is the day that is closed
 
+-- R46: how much the winter month may withdraw; what V4 tests is also what the next carry is measured by (R55).
 unfoldable pub limitOf : Date → Account → Quantity
 limitOf d a = withdrawalLimit (d .month) (a .capacity .bcq) (a .carry)
 
--- V1 and V2 are the day's marks; V3 to V8 are judged on the account as the closing finds it
+-- R51: the mask. V1 and V2 were judged by the delivery; V3 to V8 see the account as it is before any cash.
 unfoldable pub violationsOf : Date → Account → ℕ
 violationsOf d a =
     maskOf (a .today .v1) (a .today .v2)
@@ -48,9 +49,11 @@ violationsOf d a =
     (breaksV7 (a .bank))
     (breaksV8 (a .excused) (a .capacity .bcq) (a .bank))
 
+-- R52: what brings an overdrawn bank up to the month's minimum (above zero), or an overfull one down to its maximum (below zero).
 unfoldable pub cashAt : Date → Account → Units
 cashAt d a = cashOf (d .month) (a .excused) (a .capacity .bcq) (a .bank)
 
+-- R52: cash-ins and cash-outs are summed apart, as they are billed at different prices (R54); net does not know of them.
 unfoldable pub withCash : Totals → Units → Totals
 withCash m cash =
     record {
@@ -62,11 +65,11 @@ withCash m cash =
       usage = m .usage;
     }
 
--- the excuse ends where the bank after cash fits
+-- R53: the excuse lasts until a closing finds that the bank, after cash, fits the month's maximum.
 unfoldable pub excusedStill : Date → Account → Units → Bool
 excusedStill d a bank = a .excused && not (endsExcuse (d .month) (a .capacity .bcq) bank)
 
--- the account after the violations and the cash of the day, which is over
+-- R53: the account once mask and cash are known. A mask other than 0 is one violation day, however much was broken (R44).
 unfoldable pub dayEnd : Date → ℕ → Units → Account → Account
 dayEnd d mask cash a =
     withToday
@@ -75,22 +78,26 @@ dayEnd d mask cash a =
     (a .«violation_days» + cond (eqb mask 0) 0 1))
     noToday
 
+-- R44: the account after the day's part.
 unfoldable pub afterDay : Date → Account → Account
 afterDay d a = dayEnd d (violationsOf d a) (cashAt d a) a
 
--- ---- "CLOSE MONTH then, months named being the one closed: bill = …, added to owed. Carry = …. Pending becomes k; a fall sets the excuse; MDDQ and BCQ are reworked. Month numbers and marks but the excuse clear. Last, … is forfeited, all of the excess over the reworked BCQ." Of the account that the day's part left:
+-- ---- the month's part (R44, steps 6 to 11), of the account that the day's part left
 
+-- R54: the bill, by the MDDQ that was in force during the month.
 unfoldable pub billAt : Terms → Prices → Account → Mills
 billAt t p a = billOf t p (a .capacity .mddq) (a .month .totals)
 
--- MDDQ and BCQ of the step that was pending
+-- R56: MDDQ and BCQ of the step that was pending, under the terms in force.
 unfoldable pub nextCapacity : Terms → Account → Capacity
 nextCapacity t a = capacityOf t (settledStep (a .step) .k)
 
+-- R57: the forfeit goes by the BCQ of the new step, so it may grow where the step falls.
 unfoldable pub forfeitAt : Date → Terms → Account → Quantity
 forfeitAt d t a = forfeitOf (d .month) (nextCapacity t a .bcq) (a .bank)
 
--- the account in a new month: with the limit that V4 had, the step and its reworked capacity, what it forfeits and what it is billed
+-- R44: the account in its new month: carry by the limit that V4 had (R55), new step and capacity and perhaps an excuse (R56), the forfeit gone
+-- from the bank (R57), the bill added to what is owed (R54).
 unfoldable pub monthEnd : Date → Quantity → Step → Capacity → Quantity → Mills → Account → Account
 monthEnd d limit step capacity forfeit bill a =
     withExcuse
@@ -100,11 +107,13 @@ monthEnd d limit step capacity forfeit bill a =
     (added (a .owed) bill))
     (a .excused || falls (a .step))
 
+-- R44: the account after the month's part.
 unfoldable pub afterMonth : Date → Terms → Prices → Account → Account
 afterMonth d t p a = monthEnd d (limitOf d a) (settledStep (a .step)) (nextCapacity t a) (forfeitAt d t a) (billAt t p a) a
 
--- ---- an account at a closing: after the day's part, at the end, and what is reported of it
+-- ---- an account at a closing: after the day's part, at the end, and its report
 
+-- R59: CLOSE DAY forfeits and bills nothing.
 unfoldable pub dayClosing : Date → Account → Closed
 dayClosing d a =
     record {
@@ -119,6 +128,7 @@ dayClosing d a =
           };
     }
 
+-- R59: CLOSE MONTH reports the day's mask and cash, then forfeit and bill.
 unfoldable pub monthClosing : Date → Terms → Prices → Account → Closed
 monthClosing d t p a =
     record {
@@ -133,37 +143,42 @@ monthClosing d t p a =
           };
     }
 
+-- R20: an account that is not open stays exactly as it is, and zeros are reported of it.
 unfoldable pub notOpen : Account → Closed
 notOpen a = record { day = a; account = a; report = quiet }
 
+-- R44: what the entry's kind of closing makes of one account.
 unfoldable pub closingOf : Terms → Entry → Account → Closed
 closingOf t e a =
     cond (a .opened)
     (cond (eqb (e .kind) kinds.CLOSE-MONTH) (monthClosing (e .date) t (pricesOf e) a) (dayClosing (e .date) a))
     (notOpen a)
 
+-- R59: of that the account goes to the ledger, the report to the answer.
 unfoldable pub afterClosing : Terms → Entry → Account → Account
 afterClosing t e a = closingOf t e a .account
 
 unfoldable pub reportOf : Terms → Entry → Account → Report
 reportOf t e a = closingOf t e a .report
 
--- ---- the checks
+-- ---- the checks, and the ledger afterwards
 
--- an account that is open has its DELIVER, on the day that reads the meters its MEASURE, at the month's end its USAGE; 27 where one has not
+-- R43: an open account has its delivery, its measurement if the day reads the meters, and its consumption if it ends the month.
 unfoldable pub ready : Bool → Bool → Account → Bool
 ready ends reads a = not (a .opened) || (a .today .delivered && (not reads || a .month .measured) && (not ends || a .month .metered))
 
--- every number is in its range after the day's part and at the end, month numbers that then clear included; 29 where one is not
+-- R58: also the account after the day's part is asked, as the month's end would clear a total that had grown too large.
 unfoldable pub staysInRange : Terms → Entry → Account → Bool
 staysInRange t e a = accountInRange (closingOf t e a .day) && accountInRange (closingOf t e a .account)
 
+-- R44: 27, then 29. The right closing for the day, 23, was asked before (R42).
 unfoldable pub closingChecks : Ledger → Entry → List Check
 closingChecks l e =
     (not (everyAccount (ready (lastOfMonth (e .date)) (onMeasurementDay (e .date))) (l .accounts)), 27)
     ∷ (not (everyAccount (staysInRange (l .terms) e) (l .accounts)), 29)
     ∷ []
 
+-- R59: sixteen reports, and the next day, on which nothing has been accepted yet.
 unfoldable pub closed : Ledger → Entry → Posted
 closed l e =
     record {
@@ -178,6 +193,7 @@ closed l e =
           };
     }
 
+-- R58: a single account can refuse the closing, and then none is closed.
 unfoldable pub postClosing : Ledger → Entry → Posted
 postClosing l e =
     cond (eqb (verdict (closingChecks l e)) 0) (closed l e) (refused l (verdict (closingChecks l e)))

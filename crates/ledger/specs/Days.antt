@@ -6,7 +6,9 @@ use Rattle.ledger.specs.Kinds as kinds
 use Rattle.ledger.specs.Kinds.{lookup}
 use Rattle.ledger.specs.declared.entries.Entry.{Entry}
 
--- TERMS and ENROL have April 1, TERMS before anything else is accepted that day; MEASURE has its day; a closing is of the kind that the date asks for, and none comes on the last date of all. Other kinds have any day.
+-- R27 and R30: a year's terms and new accounts come on 1 April, terms before all else, as enrolments go by them.
+-- R40: MEASURE has the measurement day. R42: a closing is of the kind that the date asks for, and the last date of all stays open.
+-- Every other kind may have any day.
 unfoldable pub wrongDay : Bool → Entry → Bool
 wrongDay touched e =
     lookup (e .kind)

@@ -1,4 +1,4 @@
--- "DELIVER: delivered less back-cast, × (10,000 − R) / 10,000, is the amount added to bank, and alone to month net. … V1 and V2 are marks that this day's closing reports."
+-- DELIVER: what was brought beyond the need goes into the bank, what was lacking comes out of it.
 use Prim.Native.Nat.{ℕ}
 use mathlib.Core.Bool.{true, not}
 use mathlib.Core.List.{List, [], _∷_}
@@ -17,6 +17,7 @@ use Rattle.ledger.specs.declared.state.Today.{Today}
 use Rattle.ledger.specs.declared.entries.Entry.{Entry}
 use Rattle.ledger.specs.declared.changes.Change.{Change}
 
+-- R35: net is moved by deliveries alone, since V3, V4 and V5 are about them (R45 to R47).
 unfoldable pub withNet : Totals → Units → Totals
 withNet m net =
     record {
@@ -28,7 +29,7 @@ withNet m net =
       usage = m .usage;
     }
 
--- what the day then knows of its delivery: the share looks at the bank before
+-- R35: V1 and V2 wait here for the closing. The share goes by the bank as it was before the delivery (R33).
 unfoldable pub deliveredToday : Month → Account → Units → Quantity → Today
 deliveredToday m a amount backCast =
     record {
@@ -37,23 +38,25 @@ deliveredToday m a amount backCast =
       v2 = breaksV2 (shareOf (a .bank) (a .capacity .bcq) backCast (a .mdq)) (a .capacity .mddq) amount;
     }
 
--- an account after an amount was delivered to it
+-- R35: bank and net move by the same amount.
 unfoldable pub delivered : Month → Account → Units → Quantity → Account
 delivered m a amount backCast =
     withToday (withTotals (withBank a (sum (a .bank) amount)) (withNet (a .month .totals) (sum (a .month .totals .net) amount)))
     (deliveredToday m a amount backCast)
 
--- the amount of an entry under the retainage R
+-- R31: the amount of an entry under a retainage; the sums over a history ask for it too (R62).
 unfoldable pub amountUnder : ℕ → Entry → Units
 amountUnder retainage e = retained retainage (record { 0 = e .w1 }) (record { 0 = e .w2 })
 
+-- R35: the account after an entry's delivery.
 unfoldable pub afterDelivery : ℕ → Account → Entry → Account
 afterDelivery retainage a e = delivered (e .date .month) a (amountUnder retainage e) (record { 0 = e .w2 })
 
--- "24 … another kind on one not open"; "26 second DELIVER that day"
+-- R35: 24 if the account is not open, 26 if the day has its delivery, 29. No limit of a bank refuses gas that has come.
 unfoldable pub deliverChecks : ℕ → Account → Entry → List Check
 deliverChecks retainage a e =
     (not (a .opened), 24) ∷ (a .today .delivered, 26) ∷ (not (accountInRange (afterDelivery retainage a e)), 29) ∷ []
 
+-- R35: the number, and the account to be stored where that is 0.
 unfoldable pub delivery : Terms → Account → Entry → Change
 delivery t a e = record { number = verdict (deliverChecks (t .retainage) a e); account = afterDelivery (t .retainage) a e }

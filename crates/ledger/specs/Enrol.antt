@@ -1,4 +1,4 @@
--- "ENROL: … k and pending = MDQ / 3,000 rounded up; MDDQ, BCQ as above. … The account's other numbers and marks start at 0; accounts are never closed."
+-- ENROL: a supplier's account begins, with a bank, an MDQ and what follows from it.
 use mathlib.Core.Bool.{not}
 use mathlib.Core.List.{List, [], _∷_}
 use Rattle.tariff.specs.Amounts.{amountOf}
@@ -16,15 +16,17 @@ use Rattle.ledger.specs.declared.state.Account.{Account}
 use Rattle.ledger.specs.declared.entries.Entry.{Entry}
 use Rattle.ledger.specs.declared.changes.Change.{Change}
 
+-- R30: bank, MDQ, step, MDDQ and BCQ are given; all else starts from nothing, whatever the account held before.
 unfoldable pub newAccount : Terms → Dth → Quantity → Account
 newAccount t mdq opening =
     withCapacity (withMeasure (withBank (asOpen nobody) (amountOf opening)) mdq (firstStep mdq)) (capacityOf t (firstStep mdq .k))
 
--- the account that an entry opens
+-- R30: the account that an entry opens.
 unfoldable pub enrolled : Terms → Entry → Account
 enrolled t e = newAccount t (record { 0 = e .w1 }) (record { 0 = e .w2 })
 
--- "24 ENROL of an open account"; "25 stays on FBS"; "28 opening above 25 × BCQ"
+-- R30: 24 if the account is open, 25 if the supplier stays on FBS (R28), 28 if the opening is too large for the BCQ that the account is about
+-- to get (R29), 29.
 unfoldable pub enrolChecks : Terms → Account → Entry → List Check
 enrolChecks t a e =
     (a .opened, 24)
@@ -33,5 +35,6 @@ enrolChecks t a e =
     ∷ (not (accountInRange (enrolled t e)), 29)
     ∷ []
 
+-- R30: the number, and the account to be stored where that is 0.
 unfoldable pub enrolment : Terms → Account → Entry → Change
 enrolment t a e = record { number = verdict (enrolChecks t a e); account = enrolled t e }

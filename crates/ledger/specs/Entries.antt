@@ -1,4 +1,4 @@
--- "The entry. 32 bytes: kind, account A, account B, flags (a byte each), year (2 bytes), month, day, then words w1 to w6 (4 bytes each); little-endian, unsigned."
+-- An entry: its bytes taken apart, what its words mean, and what is wrong with it by itself.
 use Prim.Native.Nat.{ℕ, _+_, _*_, _%_}
 use mathlib.Core.Bool.{Bool, true, false, cond, not, _&&_, _||_}
 use mathlib.Core.List.{List, [], _∷_}
@@ -18,7 +18,7 @@ use Rattle.ledger.specs.declared.entries.Entry.{Entry}
 
 -- ---- the bytes taken apart
 
--- a byte, and numbers of two and of four bytes, the low byte first
+-- R11: one byte, and numbers of two and of four, the lowest byte first. Archives count in the same way (R68).
 unfoldable pub byteAt : List ℕ → ℕ → ℕ
 byteAt bytes at = getD bytes at 0
 
@@ -28,6 +28,7 @@ halfAt bytes at = byteAt bytes at + 256 * byteAt bytes (at + 1)
 unfoldable pub wordAt : List ℕ → ℕ → ℕ
 wordAt bytes at = byteAt bytes at + 256 * (byteAt bytes (at + 1) + 256 * (byteAt bytes (at + 2) + 256 * byteAt bytes (at + 3)))
 
+-- R11: every field at its offset.
 unfoldable pub entryOf : List ℕ → Entry
 entryOf bytes =
     record {
@@ -49,8 +50,9 @@ entryOf bytes =
       w6 = wordAt bytes 28;
     }
 
--- ---- the words' meanings
+-- ---- what words and flags mean
 
+-- R13: the six words of TERMS.
 unfoldable pub termsOf : Entry → Terms
 termsOf e =
     record {
@@ -62,27 +64,28 @@ termsOf e =
       «commodity_rate» = e .w6;
     }
 
+-- R13: the four words of CLOSE MONTH: W, H, L and E.
 unfoldable pub pricesOf : Entry → Prices
 pricesOf e = record { inventory = e .w1; highest = e .w2; lowest = e .w3; pipeline = e .w4 }
 
--- ENROL's flag 1 is process-only load, flag 2 wants EFBS
+-- R14: ENROL's flags are 1 for a load that does not follow the weather and 2 for the wish to have EFBS; 3 is both.
 unfoldable pub processOnly : Entry → Bool
 processOnly e = eqb (e .flags % 2) 1
 
 unfoldable pub wishes : Entry → Bool
 wishes e = leb 2 (e .flags)
 
--- TRADE's flag 0: the company sells
+-- R14: a TRADE without a flag is a sale of the company, one with a flag a purchase.
 unfoldable pub companySells : Entry → Bool
 companySells e = eqb (e .flags) 0
 
 -- ---- numbers 1 to 7
 
--- "a used account above 15"
+-- R15, number 4: an account that the kind uses is none of the sixteen.
 unfoldable pub accountTooHigh : Kind → Entry → Bool
 accountTooHigh k e = (leb 1 (k .accounts) && leb 16 (e .a)) || (leb 2 (k .accounts) && leb 16 (e .b))
 
--- "unused byte or flag set"
+-- R15, number 5: what a kind does not use is 0, so that one event has only one entry.
 unfoldable pub unusedSet : Kind → Entry → Bool
 unusedSet k e =
     (ltb (k .accounts) 1 && not (eqb (e .a) 0))
@@ -95,11 +98,11 @@ unusedSet k e =
     || (ltb (k .words) 5 && not (eqb (e .w5) 0))
     || (ltb (k .words) 6 && not (eqb (e .w6) 0))
 
--- units from 1 to 10^9
+-- R13: gas that changes hands, at least one unit.
 unfoldable pub someUnits : ℕ → Bool
 someUnits w = leb 1 w && leb w mostUnits
 
--- "word outside its range" is what this is not: the ranges of the table, kind by kind
+-- R13: every word that the kind uses is in its range; number 6 otherwise (R15).
 unfoldable pub wordsInRange : Entry → Bool
 wordsInRange e =
     lookup (e .kind)
@@ -115,11 +118,11 @@ wordsInRange e =
     ∷ [])
     false
 
--- "TRANSFER with A = B or w1 ≠ w2"
+-- R15, number 7: giver and receiver are the same, or do not tell the same quantity.
 unfoldable pub wrongTransfer : Entry → Bool
 wrongTransfer e = eqb (e .kind) kinds.TRANSFER && (eqb (e .a) (e .b) || not (eqb (e .w1) (e .w2)))
 
--- 3 to 7, of a kind that exists
+-- R15: numbers 3 to 7, of a kind that exists.
 unfoldable pub fieldChecks : Entry → List Check
 fieldChecks e =
     (not (real (e .date)), 3)
@@ -132,13 +135,14 @@ fieldChecks e =
 unfoldable pub fieldNumber : Entry → ℕ
 fieldNumber e = verdict (fieldChecks e)
 
+-- R15: number 2 comes before them, as they ask what the kind uses.
 unfoldable pub entryChecks : Entry → List Check
 entryChecks e = (not (leb (kindOf (e .kind) .since) 1), 2) ∷ fieldChecks e
 
--- the number of an entry of 32 bytes, 0 or 2 to 7
+-- R15: the number of 32 bytes: 0, or 2 to 7.
 unfoldable pub entryNumber : Entry → ℕ
 entryNumber e = verdict (entryChecks e)
 
--- the number of any bytes, 0 or 1 to 7: "1 entry not 32 bytes"
+-- R15: the number of bytes of any length: 0, or 1 to 7.
 unfoldable pub formNumber : List ℕ → ℕ
 formNumber bytes = cond (eqb (length bytes) 32) (entryNumber (entryOf bytes)) 1

@@ -1,4 +1,4 @@
--- Giving and taking gas: rules of one account, whoever is on the other side.
+-- Giving and taking gas: one account's side of it, whoever is on the other.
 use mathlib.Core.Bool.{not}
 use mathlib.Core.List.{List, [], _∷_}
 use Rattle.tariff.specs.Amounts.{more, less}
@@ -11,20 +11,22 @@ use Rattle.ledger.specs.Ranges.{accountInRange}
 use Rattle.ledger.specs.declared.state.Account.{Account}
 use Rattle.ledger.specs.declared.changes.Change.{Change}
 
+-- R37 and R38: only the bank moves.
 unfoldable pub afterGiving : Account → Quantity → Account
 afterGiving a q = withBank a (less (a .bank) q)
 
 unfoldable pub afterTaking : Account → Quantity → Account
 afterTaking a q = withBank a (more (a .bank) q)
 
--- who gives may not end below the month's minimum (28), and no number may leave its range (29)
+-- R36: 28 if the giver would end below the month's minimum; then 29.
 unfoldable pub givingChecks : Month → Account → Quantity → List Check
 givingChecks m a q = (belowMinimum m (a .capacity .bcq) (afterGiving a q .bank), 28) ∷ (not (accountInRange (afterGiving a q)), 29) ∷ []
 
--- who takes may not end above the month's maximum
+-- R36: 28 if the taker would end above the month's maximum; then 29. A bank below the minimum may still take.
 unfoldable pub takingChecks : Month → Account → Quantity → List Check
 takingChecks m a q = (aboveMaximum m (a .capacity .bcq) (afterTaking a q .bank), 28) ∷ (not (accountInRange (afterTaking a q)), 29) ∷ []
 
+-- R37 and R38: the number, and the account to be stored where that is 0.
 unfoldable pub giving : Month → Account → Quantity → Change
 giving m a q = record { number = verdict (givingChecks m a q); account = afterGiving a q }
 

@@ -1,10 +1,11 @@
--- The kinds of entries: their numbers, and the one table of what each uses.
+-- The kinds of entries: their numbers, and one table of what each uses.
 use Prim.Native.Nat.{ℕ}
 use mathlib.Core.Bool.{cond}
 use mathlib.Core.List.{List, [], _∷_}
 use lib.Dec.{eqb}
 use Rattle.ledger.specs.declared.kinds.Kind.{Kind}
 
+-- R12: the nine kinds, by the number in an entry's first byte.
 abbrev pub TERMS : ℕ
 TERMS = 1
 
@@ -32,19 +33,21 @@ CLOSE-DAY = 8
 abbrev pub CLOSE-MONTH : ℕ
 CLOSE-MONTH = 9
 
--- what a table has for a kind, or what is said of a kind that it does not name
+-- R12: what a table has for a kind, or what holds of every kind that it does not name.
 unfoldable pub lookup : {A : Type 0} → ℕ → List (ℕ × A) → A → A
 lookup kind [] otherwise = otherwise
 lookup kind (r ∷ rest) otherwise = cond (eqb kind (r .0)) (r .1) (lookup kind rest otherwise)
 
+-- R12: a row of the table.
 abbrev pub row : ℕ → ℕ → ℕ → ℕ → Kind
 row accounts flags words since = record { accounts = accounts; flags = flags; words = words; since = since }
 
--- what stands for `since` where there is no such kind
+-- R15: `since` of a number that is no kind: later than any version of the rules, so it gets 2.
 abbrev pub never : ℕ
 never = 255
 
--- how many accounts it names: none (a rule of the ledger), A (of that account alone), or A and B (of the pair); its largest flag ("Flags may be summed (ENROL 0 to 3)"), how many of w1 to w6 it uses, and which rules brought it, 1 being the first
+-- R12: the accounts that a kind names (none: it is the ledger's matter; one: A's; two: A's and B's), its largest flags, how many of its words
+-- it uses, from w1 on, and which version of the rules brought it; these rules are version 1.
 unfoldable pub kindOf : ℕ → Kind
 kindOf kind =
     lookup kind

@@ -1,3 +1,4 @@
+-- The ledger: entries, what a ledger holds, each kind of posting, a posting as a whole, and lists of postings.
 pub mod Checks
 pub mod Kinds
 pub mod Entries

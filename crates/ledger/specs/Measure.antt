@@ -1,4 +1,4 @@
--- "MEASURE with m sets MDQ. …"
+-- MEASURE: the month's new MDQ, and whether the step is to move.
 use mathlib.Core.Bool.{true, not}
 use mathlib.Core.List.{List, [], _∷_}
 use Rattle.tariff.specs.Steps.{measured}
@@ -10,14 +10,16 @@ use Rattle.ledger.specs.declared.state.Account.{Account}
 use Rattle.ledger.specs.declared.entries.Entry.{Entry}
 use Rattle.ledger.specs.declared.changes.Change.{Change}
 
+-- R40: the MDQ holds from now on, for V2's share; the step only waits (R39).
 unfoldable pub remeasured : Account → Dth → Account
 remeasured a mdq =
     withMonth (withMeasure a mdq (measured (a .step) mdq)) (record { totals = a .month .totals; measured = true; metered = a .month .metered })
 
+-- R40: the account after an entry's measurement.
 unfoldable pub afterMeasure : Account → Entry → Account
 afterMeasure a e = remeasured a (record { 0 = e .w1 })
 
--- "26 second … MEASURE … that month"
+-- R40: 24 if the account is not open, 26 if it was measured this month, 29. The day, 23, was asked before.
 unfoldable pub measureChecks : Account → Entry → List Check
 measureChecks a e =
     (not (a .opened), 24)
@@ -25,5 +27,6 @@ measureChecks a e =
     ∷ (not (accountInRange (afterMeasure a e)), 29)
     ∷ []
 
+-- R40: the number, and the account to be stored where that is 0.
 unfoldable pub measurement : Account → Entry → Change
 measurement a e = record { number = verdict (measureChecks a e); account = afterMeasure a e }

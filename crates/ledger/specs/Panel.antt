@@ -1,4 +1,4 @@
--- "The panel gives the sum of open banks, 0 when fresh; 20 and 0 on a bad ledger."
+-- The panel: all gas in bank, as one figure.
 use Prim.Native.Nat.{ℕ}
 use mathlib.Core.Bool.{cond}
 use mathlib.Core.List.{List, [], _∷_}
@@ -9,17 +9,20 @@ use Rattle.ledger.specs.declared.state.Account.{Account}
 use Rattle.ledger.specs.declared.state.Ledger.{Ledger}
 use Rattle.ledger.specs.declared.panels.Panel.{Panel}
 
--- an account not open counts as 0
+-- R60: the bank of an open account; any other counts as 0 (R20).
 unfoldable pub openBank : Account → ℤ
 openBank a = cond (a .opened) (a .bank .0) (pos 0)
 
+-- R60: the bank of account i, 0 beyond the sixteenth.
 unfoldable pub bankOf : Ledger → ℕ → ℤ
 bankOf l i = openBank (accountAt l i)
 
+-- R60: overdrawn banks count too, so the sum may be negative.
 unfoldable pub openBanks : List Account → ℤ
 openBanks [] = pos 0
 openBanks (a ∷ rest) = openBank a +ℤ openBanks rest
 
+-- R60: a ledger out of range gets 20 and no figure, since none of its numbers can be trusted.
 unfoldable pub panelOf : Ledger → Panel
 panelOf l =
     record {

@@ -28,7 +28,8 @@ use Rattle.ledger.specs.declared.entries.Entry.{Entry}
 use Rattle.ledger.specs.declared.changes.Change.{Change}
 use Rattle.ledger.specs.declared.answers.Posted.{Posted}
 
--- 20: a number of the ledger is out of its range. 21: it has not begun, and this is no TERMS. 22: this is not its date, once it has begun. 23: it is the wrong day for the kind.
+-- R22: 20 if the ledger is out of range, 21 if it has not begun and this is no TERMS, 22 if it has begun and is at another date.
+-- 23 belongs to the kinds (R27, R30, R40, R42) and is asked here as the first of their checks.
 unfoldable pub standingChecks : Ledger → Entry → List Check
 standingChecks l e =
     (not (inRange l), 20)
@@ -37,11 +38,11 @@ standingChecks l e =
     ∷ (wrongDay (l .touched) e, 23)
     ∷ []
 
--- what every posting is asked, whatever its kind: 2 to 7, 20 to 23
+-- R22: everything that is asked before the kind's own checks: 2 to 7, then 20 to 23.
 unfoldable pub admission : Ledger → Entry → ℕ
 admission l e = verdict (entryChecks e ++ standingChecks l e)
 
--- the kinds that name no account, or two; any other is refused, as 2 says already
+-- R23: the kinds that name no account, or two. The last line is never reached, as admission refuses unknown kinds.
 unfoldable pub postSeveral : Ledger → Entry → Posted
 postSeveral l e =
     lookup (e .kind)
@@ -52,7 +53,7 @@ postSeveral l e =
     ∷ [])
     (refused l 2)
 
--- those that name one: what a posting makes of that account
+-- R23: the kinds that name one account, and change nothing but it.
 unfoldable pub changeOf : Terms → Account → Entry → Change
 changeOf t a e =
     lookup (e .kind)
@@ -64,19 +65,21 @@ changeOf t a e =
     ∷ [])
     (record { number = 2; account = a })
 
--- the ledger with the changed account in its place, where the change answers 0
+-- R23: the changed account takes its place where the number is 0.
 unfoldable pub stored : Ledger → ℕ → Change → Posted
 stored l i c = settle l (c .number) (withAccount l i (c .account))
 
+-- R23: the kind's own checks, and what it does.
 unfoldable pub postKind : Ledger → Entry → Posted
 postKind l e =
     cond (eqb (kindOf (e .kind) .accounts) 1)
     (stored l (e .a) (changeOf (l .terms) (accountAt l (e .a)) e))
     (postSeveral l e)
 
+-- R23: an entry of 32 bytes.
 unfoldable pub postEntry : Ledger → Entry → Posted
 postEntry l e = cond (eqb (admission l e) 0) (postKind l e) (refused l (admission l e))
 
--- "1 entry not 32 bytes"
+-- R23: any bytes; number 1 comes before all others. A ledger that is lent becomes the one returned here (R24).
 unfoldable pub posted : Ledger → List ℕ → Posted
 posted l bytes = cond (eqb (length bytes) 32) (postEntry l (entryOf bytes)) (refused l 1)

@@ -1,4 +1,4 @@
--- "20 a number in the ledger outside its range: bank −10^9 to 10^11; net within 10^11 of zero; other month numbers and carry 0 to 10^11, Mcf to 10^8; owed within 10^15; violation days to 40,000; k, pending 1 to 100 if open; runs 0 to 2; MDQ, MDDQ to 300,000; BCQ to 3 × 10^7; terms and date as above once begun"
+-- The range of every number in a ledger (R16); one outside tells of a damaged ledger (20), or of a posting that goes too far (29).
 use mathlib.Core.Bool.{Bool, true, not, _&&_, _||_}
 use mathlib.Core.List.{List, [], _∷_}
 use lib.Dec.{leb}
@@ -11,7 +11,7 @@ use Rattle.tariff.specs.declared.steps.Step.{Step}
 use Rattle.ledger.specs.declared.state.Account.{Account}
 use Rattle.ledger.specs.declared.state.Ledger.{Ledger}
 
--- every number is at most 10^11, net on either side of zero
+-- R18: the month's numbers; of them only net has a sign.
 unfoldable pub totalsInRange : Totals → Bool
 totalsInRange m =
     within mostBank mostBank (m .net)
@@ -21,11 +21,13 @@ totalsInRange m =
     && leb (m .«cash_outs» .0) mostBank
     && leb (m .usage .0) mostMcf
 
+-- R18: an account that is not open has no step, so k and pending are not asked of it.
 unfoldable pub stepInRange : Bool → Step → Bool
 stepInRange opened s =
     (not opened || (leb 1 (s .k) && leb (s .k) 100 && (leb 1 (s .pending) && leb (s .pending) 100)))
     && (leb (s .over) 2 && leb (s .under) 2)
 
+-- R18: all numbers of an account, open or not.
 unfoldable pub accountInRange : Account → Bool
 accountInRange a =
     within mostOverdraft mostBank (a .bank)
@@ -36,11 +38,12 @@ accountInRange a =
     && withinMills mostOwed (a .owed)
     && leb (a .«violation_days») mostDays
 
--- every account passes
+-- R18: whether all accounts pass a test.
 unfoldable pub everyAccount : (Account → Bool) → List Account → Bool
 everyAccount p [] = true
 everyAccount p (a ∷ rest) = p a && everyAccount p rest
 
+-- R18: before the ledger has begun, date and terms mean nothing and may be anything.
 unfoldable pub inRange : Ledger → Bool
 inRange l =
     (not (l .begun) || (real (l .date) && termsInRange (l .terms))) && everyAccount accountInRange (l .accounts)

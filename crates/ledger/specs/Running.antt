@@ -1,4 +1,4 @@
--- A list of postings, each to the ledger that the one before it returned.
+-- A list of postings, each to the ledger that the one before it left.
 use Prim.Native.Nat.{ℕ}
 use mathlib.Core.Bool.{Bool}
 use mathlib.Core.List.{List, [], _∷_}
@@ -7,20 +7,21 @@ use Rattle.ledger.specs.Posting.{posted}
 use Rattle.ledger.specs.declared.state.Ledger.{Ledger}
 use Rattle.ledger.specs.declared.answers.Answer.{Answer}
 
--- the ledger at the end
+-- R61: the ledger at the end.
 abbrev pub run : Ledger → List (List ℕ) → Ledger
 run l [] = l
 run l (b ∷ bs) = run (posted l b .ledger) bs
 
--- a posting and the answer to it
+-- R61: a posting, and the answer to it.
 pub record Line : Type 0 where
   pub bytes : List ℕ
   pub answer : Answer
 
+-- R61: every posting with its answer, refused ones too.
 abbrev pub history : Ledger → List (List ℕ) → List Line
 history l [] = []
 history l (b ∷ bs) = record { bytes = b; answer = posted l b .answer } ∷ history (posted l b .ledger) bs
 
--- accepted means number 0
+-- R61: accepted means number 0.
 abbrev pub isAccepted : Line → Bool
 isAccepted x = eqb (x .answer .number) 0

@@ -1,4 +1,4 @@
--- "A fresh ledger has no terms, date or open account. An account holds its bank, MDQ, step k, pending step, two runs, MDDQ, BCQ, month net, month company sales and purchases, month cash-ins and cash-outs, carry, owed, violation days, and marks. The ledger marks that something was accepted today."
+-- What a ledger remembers between postings, and how one part of it is replaced.
 use Prim.Native.Nat.{ℕ}
 use mathlib.Core.Bool.{Bool, true, false}
 use lib.IntN.{pos}
@@ -15,7 +15,7 @@ use Rattle.ledger.specs.declared.state.Ledger.{Ledger}
 use Rattle.ledger.specs.declared.state.ThisMonth.{ThisMonth}
 use Rattle.ledger.specs.declared.state.Today.{Today}
 
--- a month in which nothing has moved yet
+-- R17: a month in which nothing has happened yet; each CLOSE MONTH begins one (R44).
 unfoldable pub noTotals : Totals
 noTotals =
     record {
@@ -31,11 +31,11 @@ unfoldable pub noMonth : ThisMonth
 unfolding noTotals
 noMonth = record { totals = noTotals; measured = false; metered = false }
 
--- a day on which nothing has been delivered yet
+-- R17: a day without its delivery; each closing begins one (R19).
 unfoldable pub noToday : Today
 noToday = record { delivered = false; v1 = false; v2 = false }
 
--- an account from its parts
+-- R16: an account from its parts.
 abbrev pub account : Bool → Bool → Today → Units → Dth → Step → Capacity → ThisMonth → Quantity → Mills → ℕ → Account
 account opened excused today bank mdq step capacity month carry owed days =
     record {
@@ -52,13 +52,14 @@ account opened excused today bank mdq step capacity month carry owed days =
       «violation_days» = days;
     }
 
--- an account that is not open, every number at 0
+-- R17: an account that is not open, every number 0 and every mark off.
 unfoldable pub nobody : Account
 unfolding noTotals noMonth noToday
 nobody =
     account false false noToday (record { 0 = pos 0 }) (record { 0 = 0 }) (record { k = 0; pending = 0; over = 0; under = 0 })
     (record { mddq = record { 0 = 0 }; bcq = record { 0 = 0 } }) noMonth (record { 0 = 0 }) (record { 0 = pos 0 }) 0
 
+-- R17: the ledger before its first posting.
 unfoldable pub fresh : Ledger
 fresh =
     record {
@@ -77,14 +78,17 @@ fresh =
       accounts = replicate 16 nobody;
     }
 
+-- R16: account i; beyond the sixteenth there is nobody.
 unfoldable pub accountAt : Ledger → ℕ → Account
 accountAt l i = getD (l .accounts) i nobody
 
--- ---- one part of an account anew
+-- ---- one part of an account replaced
 
+-- R20: opened, which nothing takes back.
 unfoldable pub asOpen : Account → Account
 asOpen a = account true (a .excused) (a .today) (a .bank) (a .mdq) (a .step) (a .capacity) (a .month) (a .carry) (a .owed) (a .«violation_days»)
 
+-- R16: the excuse, what the day knows, the bank, MDQ and step, MDDQ and BCQ, or the month.
 unfoldable pub withExcuse : Account → Bool → Account
 withExcuse a excused = account (a .opened) excused (a .today) (a .bank) (a .mdq) (a .step) (a .capacity) (a .month) (a .carry) (a .owed) (a .«violation_days»)
 
@@ -103,18 +107,19 @@ withCapacity a capacity = account (a .opened) (a .excused) (a .today) (a .bank) 
 unfoldable pub withMonth : Account → ThisMonth → Account
 withMonth a month = account (a .opened) (a .excused) (a .today) (a .bank) (a .mdq) (a .step) (a .capacity) month (a .carry) (a .owed) (a .«violation_days»)
 
--- what is carried into the next month, and what is owed
+-- R16: carry and owed, which CLOSE MONTH sets together (R54, R55).
 unfoldable pub withCarry : Account → Quantity → Mills → Account
 withCarry a carry owed = account (a .opened) (a .excused) (a .today) (a .bank) (a .mdq) (a .step) (a .capacity) (a .month) carry owed (a .«violation_days»)
 
+-- R16: the count of violation days.
 unfoldable pub withDays : Account → ℕ → Account
 withDays a days = account (a .opened) (a .excused) (a .today) (a .bank) (a .mdq) (a .step) (a .capacity) (a .month) (a .carry) (a .owed) days
 
--- the month's totals anew
+-- R16: the month's numbers, its marks staying.
 unfoldable pub withTotals : Account → Totals → Account
 withTotals a totals = withMonth a (record { totals = totals; measured = a .month .measured; metered = a .month .metered })
 
--- the ledger with one account anew, after something was accepted today
+-- R19: storing an account is accepting, so the day is touched.
 unfoldable pub withAccount : Ledger → ℕ → Account → Ledger
 withAccount l i a =
     record { begun = l .begun; touched = true; date = l .date; terms = l .terms; accounts = set (l .accounts) i a }

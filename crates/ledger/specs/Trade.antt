@@ -1,4 +1,4 @@
--- "TRADE: A; flag 0 company sells to A, 1 buys"
+-- TRADE: the company sells gas to an account, or buys gas from it.
 use mathlib.Core.Bool.{Bool, true, false, cond, not}
 use Rattle.tariff.specs.Amounts.{together}
 use Rattle.tariff.specs.declared.amounts.Quantity.{Quantity}
@@ -10,7 +10,7 @@ use Rattle.ledger.specs.declared.state.Account.{Account}
 use Rattle.ledger.specs.declared.entries.Entry.{Entry}
 use Rattle.ledger.specs.declared.changes.Change.{Change}
 
--- a sale adds to the month's sales, a purchase to its purchases
+-- R38: sales and purchases are summed apart, as the bill rounds each by itself (R54).
 unfoldable pub withTrade : Bool → Totals → Quantity → Totals
 withTrade sells m q =
     record {
@@ -22,17 +22,17 @@ withTrade sells m q =
       usage = m .usage;
     }
 
--- the account whose month has the trade
+-- R38: the account whose month counts the trade.
 unfoldable pub booked : Bool → Account → Quantity → Account
 booked sells a q = withTotals a (withTrade sells (a .month .totals) q)
 
--- and then takes what the company sells, or gives what it buys
+-- R38: the account takes what is sold to it and gives what is bought from it, within the month's band (R36).
 unfoldable pub traded : Account → Entry → Change
 traded a e =
     cond (companySells e)
     (taking (e .date .month) (booked true a (record { 0 = e .w1 })) (record { 0 = e .w1 }))
     (giving (e .date .month) (booked false a (record { 0 = e .w1 })) (record { 0 = e .w1 }))
 
--- 24: the account is not open; then what its gas says
+-- R38: 24 if the account is not open, then 28 and 29.
 unfoldable pub trade : Account → Entry → Change
 trade a e = record { number = cond (not (a .opened)) 24 (traded a e .number); account = traded a e .account }

@@ -1,4 +1,4 @@
--- "TRANSFER … A gives to B"; "A receiver may not end above the month's maximum, a giver not below its minimum."
+-- TRANSFER: gas of one supplier becomes that of another.
 use mathlib.Core.Bool.{not, _&&_, _||_}
 use mathlib.Core.List.{List, [], _∷_}
 use lib.Dec.{eqb}
@@ -11,13 +11,14 @@ use Rattle.ledger.specs.declared.entries.Entry.{Entry}
 use Rattle.ledger.specs.declared.changes.Change.{Change}
 use Rattle.ledger.specs.declared.answers.Posted.{Posted}
 
+-- R37: A gives w1, and B takes it.
 unfoldable pub giver : Ledger → Entry → Change
 giver l e = giving (e .date .month) (accountAt l (e .a)) (record { 0 = e .w1 })
 
 unfoldable pub receiver : Ledger → Entry → Change
 receiver l e = taking (e .date .month) (accountAt l (e .b)) (record { 0 = e .w1 })
 
--- 24: either account is not open; 28, then 29: the gas of either says so
+-- R37: 24 if either is not open; 28 if either would leave the band, before 29 of either.
 unfoldable pub transferChecks : Ledger → Entry → List Check
 transferChecks l e =
     (not (accountAt l (e .a) .opened && accountAt l (e .b) .opened), 24)
@@ -25,6 +26,7 @@ transferChecks l e =
     ∷ (not (eqb (giver l e .number) 0 && eqb (receiver l e .number) 0), 29)
     ∷ []
 
+-- R37: both are stored. They are two accounts, as 7 was asked before.
 unfoldable pub postTransfer : Ledger → Entry → Posted
 postTransfer l e =
     settle l (verdict (transferChecks l e))

@@ -1,4 +1,4 @@
--- "USAGE: A; w1 Mcf": it sets the month's consumption.
+-- USAGE: what a supplier's customers consumed in the month, for the bill.
 use mathlib.Core.Bool.{true, not}
 use mathlib.Core.List.{List, [], _∷_}
 use Rattle.tariff.specs.declared.amounts.Mcf.{Mcf}
@@ -10,6 +10,7 @@ use Rattle.ledger.specs.declared.state.Account.{Account}
 use Rattle.ledger.specs.declared.entries.Entry.{Entry}
 use Rattle.ledger.specs.declared.changes.Change.{Change}
 
+-- R41: consumption is told once for the whole month, so it is set and not added.
 unfoldable pub withUsage : Totals → Mcf → Totals
 withUsage m usage =
     record {
@@ -21,16 +22,19 @@ withUsage m usage =
       usage = usage;
     }
 
+-- R41: told, which the month's closing asks for (R43).
 unfoldable pub metered : Account → Mcf → Account
 metered a usage = withMonth a (record { totals = withUsage (a .month .totals) usage; measured = a .month .measured; metered = true })
 
+-- R41: the account after an entry's consumption.
 unfoldable pub afterUsage : Account → Entry → Account
 afterUsage a e = metered a (record { 0 = e .w1 })
 
--- "26 second … USAGE that month"
+-- R41: 24 if the account is not open, 26 if the month's consumption was told, 29.
 unfoldable pub usageChecks : Account → Entry → List Check
 usageChecks a e =
     (not (a .opened), 24) ∷ (a .month .metered, 26) ∷ (not (accountInRange (afterUsage a e)), 29) ∷ []
 
+-- R41: the number, and the account to be stored where that is 0.
 unfoldable pub usage : Account → Entry → Change
 usage a e = record { number = verdict (usageChecks a e); account = afterUsage a e }

@@ -162,7 +162,7 @@ pub fn bank(ledger: Ledger, account: usize) -> Units
     open_bank(a)
 }
 
-// Document 01's marked cases hold of postings to a fresh ledger, as one group.
+// R67: cases worked out in advance hold of postings to a fresh ledger, as one group.
 pub fn marked_cases()
     ensures { λ r. ⌜ MarkedCases ⌝ }
 {}

@@ -1,4 +1,4 @@
-// Reads an archive of at most 65,536 bytes from standard input and prints what the panel shows:
+// R81: standard input is an archive, 65,536 bytes long at most, and one line says what the panel shows of it:
 // accepted and refused postings and the figure, or what is wrong with the archive and where.
 use archive::Figures;
 use libc::STDIN_FILENO;

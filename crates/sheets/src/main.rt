@@ -1,5 +1,5 @@
-// Reads an archive of at most 65,536 bytes from standard input and prints its year sheets of 2025, 2026 and 2027,
-// a row for each account.
+// R79: the year sheets of 2025, 2026 and 2027, a row for each account, of the archive on standard input,
+// which may be up to 65,536 bytes long.
 use libc::STDIN_FILENO;
 use printing::text;
 use printing::units;

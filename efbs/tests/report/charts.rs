@@ -5,7 +5,7 @@ use crate::common::sample;
 use crate::reading::{charts, drawing, height_at, number, on_axis, paths, plot, points, Path};
 use efbs::words::{numbered_violation, violation_list};
 
-/// Percent of the BCQ from April to March, as document 01 prints them; the page asks the library.
+/// Percent of the BCQ from April to March, as R10 has them; the page asks the library.
 const MINIMUM: [u64; 12] = [0, 0, 14, 34, 54, 75, 88, 95, 78, 59, 36, 18];
 const MAXIMUM: [u64; 12] = [25, 60, 60, 60, 85, 85, 98, 98, 98, 98, 65, 45];
 
