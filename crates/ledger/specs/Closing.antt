@@ -32,7 +32,7 @@ use Rattle.ledger.specs.declared.answers.Report.{Report}
 use Rattle.ledger.specs.declared.answers.Posted.{Posted}
 use Rattle.ledger.specs.declared.closing.Closed.{Closed}
 
--- ---- the day's part (R44, steps 1 to 5); d is the day that is closed
+-- ---- the day's part (R44, stages 1 to 5); d is the day that is closed
 
 -- R46: how much the winter month may withdraw; what V4 tests is also what the next carry is measured by (R55).
 unfoldable pub limitOf : Date → Account → Quantity
@@ -82,7 +82,7 @@ dayEnd d mask cash a =
 unfoldable pub afterDay : Date → Account → Account
 afterDay d a = dayEnd d (violationsOf d a) (cashAt d a) a
 
--- ---- the month's part (R44, steps 6 to 11), of the account that the day's part left
+-- ---- the month's part (R44, stages 6 to 11), of the account that the day's part left
 
 -- R54: the bill, by the MDDQ that was in force during the month.
 unfoldable pub billAt : Terms → Prices → Account → Mills
