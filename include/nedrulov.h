@@ -9,8 +9,8 @@
  * (a C program that only assigns to them, or copies whole ledgers, never makes another value). What each answer is
  * is proved for every input; see docs/ARCHITECTURE.md.
  *
- * Units. Gas in hundredths of a Dth ("units"), MDQ, MDDQ and BCQ in whole Dth, consumption in whole Mcf, money in
- * mills (thousandths of a dollar).
+ * Measures. Gas that moves is in units, of which a Dth has a hundred; capacities (MDQ, MDDQ, BCQ) are in Dth, consumption
+ * is in Mcf, and money in mills, of which a dollar has a thousand.
  */
 #ifndef NEDRULOV_H
 #define NEDRULOV_H
@@ -32,31 +32,31 @@ extern "C" {
 enum {
     NEDRULOV_ACCEPTED = 0,
     /* of an entry or a list by itself */
-    NEDRULOV_WRONG_LENGTH = 1,      /* entry not 32 bytes; list no multiple of 32 */
-    NEDRULOV_NO_KIND = 2,           /* kind not 1 to 9 */
-    NEDRULOV_NO_DATE = 3,           /* no such date in 2000 to 2099 */
-    NEDRULOV_NO_ACCOUNT = 4,        /* a used account above 15 */
-    NEDRULOV_UNUSED_SET = 5,        /* unused byte or flag set */
-    NEDRULOV_WORD_RANGE = 6,        /* word outside its range */
-    NEDRULOV_WRONG_TRANSFER = 7,    /* TRANSFER with A = B or w1 not w2 */
+    NEDRULOV_WRONG_LENGTH = 1,      /* an entry has 32 bytes, a list a multiple of 32 */
+    NEDRULOV_NO_KIND = 2,           /* kinds are 1 to 9 */
+    NEDRULOV_NO_DATE = 3,           /* the calendar of 2000 to 2099 has no such day */
+    NEDRULOV_NO_ACCOUNT = 4,        /* a used account is above 15 */
+    NEDRULOV_UNUSED_SET = 5,        /* something is set that the kind does not use */
+    NEDRULOV_WORD_RANGE = 6,        /* a word is too small or too large */
+    NEDRULOV_WRONG_TRANSFER = 7,    /* TRANSFER of A to A, or w1 and w2 differ */
     /* of an archive */
-    NEDRULOV_WRONG_HEADER = 8,      /* size, opening bytes, bytes 6 and 7, more than 1,200 sections, directory beyond the end */
-    NEDRULOV_WRONG_DIRECTORY = 9,   /* directory pair or file end wrong */
-    NEDRULOV_WRONG_SECTION = 10,    /* kind 9 not last in its section, or a section but the last ending otherwise */
-    NEDRULOV_TOO_LARGE = 11,        /* writer: over 1,200 sections or 2^32 - 1 bytes */
-    NEDRULOV_TOO_SHORT = 12,        /* output too short */
-    NEDRULOV_NO_SECTION = 13,       /* no such section */
+    NEDRULOV_WRONG_HEADER = 8,      /* wrong size, opening or zeros, over 1,200 sections, or the directory is cut off */
+    NEDRULOV_WRONG_DIRECTORY = 9,   /* directory and file do not fit each other */
+    NEDRULOV_WRONG_SECTION = 10,    /* CLOSE MONTH inside a section, or none at its end (the last one needs none) */
+    NEDRULOV_TOO_LARGE = 11,        /* writer: more than 1,200 sections or 2^32 - 1 bytes */
+    NEDRULOV_TOO_SHORT = 12,        /* the output is too small, and stays as it was */
+    NEDRULOV_NO_SECTION = 13,       /* a sound archive without such a section */
     /* of the ledger */
-    NEDRULOV_LEDGER_RANGE = 20,     /* a number in the ledger outside its range */
-    NEDRULOV_NOT_BEGUN = 21,        /* not begun, and not TERMS */
-    NEDRULOV_WRONG_DATE = 22,       /* not the ledger's date */
-    NEDRULOV_WRONG_DAY = 23,        /* not the day for this kind */
-    NEDRULOV_WRONG_ACCOUNT = 24,    /* ENROL of an open account; another kind on one not open */
-    NEDRULOV_STAYS_ON_FBS = 25,     /* stays on FBS */
-    NEDRULOV_SECOND_TIME = 26,      /* second DELIVER that day, MEASURE or USAGE that month */
-    NEDRULOV_INCOMPLETE = 27,       /* closing while an open account lacks DELIVER, MEASURE or USAGE */
-    NEDRULOV_PAST_LIMIT = 28,       /* opening too high; TRANSFER or TRADE past its limit */
-    NEDRULOV_WOULD_OVERFLOW = 29    /* a number would leave its range */
+    NEDRULOV_LEDGER_RANGE = 20,     /* the ledger handed in holds a number out of range */
+    NEDRULOV_NOT_BEGUN = 21,        /* nothing but TERMS can begin a ledger */
+    NEDRULOV_WRONG_DATE = 22,       /* the ledger stands at another day */
+    NEDRULOV_WRONG_DAY = 23,        /* this kind is not for this day */
+    NEDRULOV_WRONG_ACCOUNT = 24,    /* already open for ENROL, or not open for another kind */
+    NEDRULOV_STAYS_ON_FBS = 25,     /* the supplier is not served under EFBS */
+    NEDRULOV_SECOND_TIME = 26,      /* DELIVER was posted today, or MEASURE or USAGE this month */
+    NEDRULOV_INCOMPLETE = 27,       /* closing: DELIVER, MEASURE or USAGE is missing somewhere */
+    NEDRULOV_PAST_LIMIT = 28,       /* too large an opening, or a bank moved past the month's band */
+    NEDRULOV_WOULD_OVERFLOW = 29    /* a number of the ledger would go out of range */
 };
 
 /* Bits of a violation mask. */

@@ -1,8 +1,9 @@
 //! The archive: reader, writer, replay, year sheet and the panel program's
 //! line.
 //!
-//! "EFB1", section count N (2 bytes), two zeros, then N pairs of offset and
-//! length (4 bytes each), then the sections of whole entries.
+//! A file opens with EFB1, the number of its sections in two bytes and two
+//! bytes of zero. A directory follows, where each section has its offset and
+//! its length in four bytes each, and then the sections of whole entries.
 
 use crate::calendar::Month;
 use crate::entry::{entry_number, Entry, ENTRY, KIND_CLOSE_MONTH};
@@ -31,7 +32,7 @@ pub fn check(archive: &[u8]) -> (u64, usize) {
     }
 }
 
-/// A section, as that part of the caller's bytes.
+/// The part of the caller's bytes that a section is.
 pub fn section(archive: &[u8], index: usize) -> Result<&[u8], (u64, usize)> {
     let sections = read(archive)?;
     sections.get(index).ok_or((number::NO_SECTION, 0))
@@ -189,7 +190,7 @@ fn try_write(list: &[u8], out: &mut [u8]) -> Result<usize, Refusal> {
     Ok(size)
 }
 
-/// A section ends after each kind 9; none is empty.
+/// Every kind 9 ends a section; none is empty.
 fn split_list(entries: &[Bytes32]) -> impl Iterator<Item = &[Bytes32]> {
     entries.split_inclusive(|entry| entry[0] == KIND_CLOSE_MONTH)
 }
@@ -253,7 +254,7 @@ fn replay_watched(archive: &[u8], mut watch: impl FnMut(&Bytes32, &Ledger)) -> R
 }
 
 /// Banks of the gas year from April of the year to March of the next, by
-/// account and month, just after the accepted CLOSE MONTH.
+/// account and month, as each accepted CLOSE MONTH left them.
 pub fn year_sheet(archive: &[u8], year: u64) -> [[i64; 12]; ACCOUNTS] {
     let mut sheet = [[0; 12]; ACCOUNTS];
     replay_watched(archive, |bytes, ledger| {

@@ -155,8 +155,8 @@ impl Date {
         }
     }
 
-    /// The 25th or the next Monday to Friday: a Monday, if the 25th falls on
-    /// a Saturday (then the 27th) or a Sunday (then the 26th).
+    /// The 25th, unless it falls on a Saturday or Sunday; then the Monday
+    /// after it, which is the 27th or the 26th.
     pub fn is_measurement_day(self) -> bool {
         match self.day {
             25 => self.weekday() <= FRIDAY,
@@ -242,7 +242,7 @@ mod tests {
                 assert!((25..days[0]).all(|day| date(year, month, day).weekday() > FRIDAY));
             }
         }
-        assert!(date(2026, 4, 27).is_measurement_day()); // marked case 9
+        assert!(date(2026, 4, 27).is_measurement_day()); // the 25th is a Saturday
         assert!(date(2026, 5, 25).is_measurement_day()); // a Monday
         assert!(date(2026, 10, 26).is_measurement_day()); // the 25th is a Sunday
         assert!(date(2027, 12, 27).is_measurement_day()); // the 25th is a Saturday

@@ -1,12 +1,13 @@
-//! The EFBS bank ledger and its archive, after document 01.
+//! A second implementation of the rules in docs/RULES.md: a ledger of gas
+//! banks under Rider EFBS, and its archive.
 //!
 //! From the bottom up: dates and the month's percentages, tariff arithmetic,
 //! the 32-byte entry, the ledger with its ranges and panel, the postings with
 //! the two closings, and the archive above them all.
 //!
-//! Gas is counted in hundredths of a Dth ("units"), MDQ, MDDQ and BCQ in whole
-//! Dth, consumption in whole Mcf, money in mills. So p percent of a BCQ is
-//! exactly p × BCQ units.
+//! Gas that moves is in units, a hundred to the Dth; MDQ, MDDQ and BCQ are in
+//! Dth, consumption is in Mcf and money in mills. A percentage p of a BCQ is
+//! therefore p × BCQ in units, without a quotient.
 
 #![forbid(unsafe_code)]
 

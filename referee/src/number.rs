@@ -1,55 +1,55 @@
-//! The numbers of document 01. Checks run in ascending order and the first
-//! that applies is the answer.
+//! The numbers of an answer. Checks are made from the lowest number to the
+//! highest, and the first that finds a fault is the answer.
 
 /// Accepted.
 pub const ACCEPTED: u64 = 0;
 
-/// Entry not 32 bytes; a list that is no multiple of 32.
+/// An entry has 32 bytes, a list a multiple of 32.
 pub const LENGTH: u64 = 1;
-/// Kind not 1 to 9.
+/// Kinds are 1 to 9.
 pub const KIND: u64 = 2;
-/// No such date in 2000 to 2099.
+/// The calendar of 2000 to 2099 has no such day.
 pub const DATE: u64 = 3;
-/// A used account above 15.
+/// A used account is above 15.
 pub const ACCOUNT: u64 = 4;
-/// Unused byte or flag set.
+/// Something is set that the kind does not use.
 pub const UNUSED: u64 = 5;
-/// Word outside its range.
+/// A word is too small or too large.
 pub const WORD: u64 = 6;
-/// TRANSFER with A = B or w1 ≠ w2.
+/// TRANSFER of A to A, or w1 and w2 differ.
 pub const TRANSFER: u64 = 7;
 
-/// Archive: header wrong, or directory beyond the end.
+/// Archive: the header is wrong, or the directory is cut off.
 pub const HEADER: u64 = 8;
-/// Archive: directory pair or file end wrong.
+/// Archive: directory and file do not fit each other.
 pub const DIRECTORY: u64 = 9;
-/// Archive: kind 9 not last in its section, or a section but the last ending
-/// otherwise.
+/// Archive: a kind 9 inside a section, or none at its end, though the last
+/// section needs none.
 pub const SECTION_END: u64 = 10;
-/// Writer: over 1,200 sections or 2^32 − 1 bytes.
+/// Writer: more than 1,200 sections or 2^32 − 1 bytes.
 pub const TOO_LARGE: u64 = 11;
-/// Writer: output too short.
+/// Writer: the output is too small.
 pub const OUTPUT: u64 = 12;
-/// Reader: no such section.
+/// Reader: the archive is sound, but has fewer sections.
 pub const NO_SECTION: u64 = 13;
 
-/// A number in the ledger outside its range.
+/// The ledger handed in holds a number that is out of range.
 pub const BAD_LEDGER: u64 = 20;
-/// Not begun, and not TERMS.
+/// Nothing but TERMS can begin a ledger.
 pub const NOT_BEGUN: u64 = 21;
-/// Not the ledger's date.
+/// The ledger stands at another day.
 pub const OTHER_DATE: u64 = 22;
-/// Not on this day.
+/// The kind is not for this day.
 pub const WRONG_DAY: u64 = 23;
-/// ENROL of an open account; another kind on one not open.
+/// The account is open and the kind ENROL, or neither.
 pub const OPEN: u64 = 24;
-/// Stays on FBS.
+/// The supplier is not served under EFBS.
 pub const STAYS: u64 = 25;
-/// Second DELIVER that day, MEASURE or USAGE that month.
+/// DELIVER was posted today, or MEASURE or USAGE this month.
 pub const SECOND: u64 = 26;
-/// Closing while an open account lacks a posting.
+/// A closing finds an open account without a posting that it needs.
 pub const LACKING: u64 = 27;
-/// Opening, TRANSFER or TRADE past its limit.
+/// Too large an opening, or a bank moved past the month's band.
 pub const LIMIT: u64 = 28;
-/// A number would leave its range.
+/// A number of the ledger would go out of range.
 pub const LEAVES_RANGE: u64 = 29;

@@ -218,7 +218,7 @@ pub fn place(archive: &[u8], section: usize) -> Place {
     unsafe { ffi::nedrulov_place(archive.as_ptr(), archive.len(), section) }
 }
 
-/// A section as that part of the archive, or the number and index of the refusal.
+/// A section as a part of the archive, or a refusal with its number and index.
 pub fn section(archive: &[u8], section: usize) -> Result<&[u8], Checked> {
     let p = place(archive, section);
     match p.number {

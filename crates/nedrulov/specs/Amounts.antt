@@ -1,4 +1,4 @@
--- The amount of a delivery, for every input: 0 where a number is outside its range.
+-- R82: the amount of a delivery for programs that explain figures, for every input.
 use Prim.Native.Nat.{ℕ}
 use mathlib.Core.Bool.{Bool, cond, _&&_}
 use lib.Dec.{leb}
@@ -6,11 +6,11 @@ use lib.IntN.{ℤ, pos}
 use Rattle.tariff.specs.Bounds.{mostRetainage, mostUnits}
 use Rattle.tariff.specs.Delivery.{retained}
 
--- "R, retainage, 0 to 9,999 ten-thousandths"; "delivered, … back-cast, units to 10^9"
+-- R82: retainage, gas brought and back-cast within the ranges of R13.
 unfoldable pub deliverable : ℕ → ℕ → ℕ → Bool
 deliverable retainage delivered backCast = leb retainage mostRetainage && leb delivered mostUnits && leb backCast mostUnits
 
--- the amount of a DELIVER under the retainage R
+-- R82: the amount of R31, found without a ledger; 0 where one of the three is outside its range.
 unfoldable pub deliveryAmount : ℕ → ℕ → ℕ → ℤ
 deliveryAmount retainage delivered backCast =
     cond (deliverable retainage delivered backCast)

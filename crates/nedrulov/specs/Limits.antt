@@ -1,4 +1,4 @@
--- A month's least and largest bank, for every input: 0 where a number is outside its range.
+-- R82: the two ends of a month's band for programs that explain figures, for every input.
 use Prim.Native.Nat.{ℕ}
 use mathlib.Core.Bool.{Bool, cond, _&&_}
 use lib.Dec.{leb}
@@ -7,11 +7,11 @@ use Rattle.tariff.specs.Amounts.{percent}
 use Rattle.tariff.specs.Months.{minimum, maximum}
 use Rattle.nedrulov.specs.declared.Band.{Band}
 
--- a month of the calendar; "BCQ to 3 × 10^7"
+-- R82: a month of the calendar, and a BCQ within its range (R16).
 unfoldable pub limited : ℕ → ℕ → Bool
 limited month bcq = leb 1 month && leb month 12 && leb bcq mostBcq
 
--- the month's minimum and maximum of a BCQ
+-- R82: the least and the largest bank of R36, in units; 0 and 0 where month or BCQ is outside its range.
 unfoldable pub bandOf : ℕ → ℕ → Band
 bandOf month bcq =
     cond (limited month bcq)

@@ -1,4 +1,4 @@
--- Both closings: "for each open account: V3 … V8", the cash, the carry and the forfeit.
+-- R45 to R57: what a closing finds in an account, and what it does to it: violations, cash, carry and forfeit.
 use Prim.Native.Nat.{ℕ, _+_, _-_}
 use mathlib.Core.Bool.{Bool, cond, not, _&&_, _||_}
 use Rattle.tariff.specs.Amounts.{nothing, inward, opposite, gap, above, below, less, percent}
@@ -10,57 +10,58 @@ use Rattle.tariff.specs.declared.amounts.Units.{Units}
 use Rattle.tariff.specs.declared.months.Month.{Month}
 use Rattle.tariff.specs.declared.dates.Date.{Date}
 
--- "V3 net > MMBQ × BCQ"
+-- R45: a month's net injection above its MMBQ share of the BCQ.
 unfoldable pub breaksV3 : Month → Dth → Units → Bool
 breaksV3 m bcq net = above net (percent (mmbq m) bcq)
 
--- "limit = max(0, withdrawal maximum × BCQ − carry)"; on ℕ a difference stops at 0
+-- R46: what the month may withdraw, shortened by the carry; on ℕ a difference stops at 0.
 unfoldable pub withdrawalLimit : Month → Dth → Quantity → Quantity
 withdrawalLimit m bcq carry = record { 0 = percent (withdrawalMaximum m) bcq .0 - carry .0 }
 
--- "V4 (November to March) −net > limit"
+-- R46: a winter month's net withdrawal above that limit.
 unfoldable pub breaksV4 : Month → Quantity → Units → Bool
 breaksV4 m limit net = winter m && above (opposite net) limit
 
--- "V5 as February or March ends, −net < withdrawal minimum × BCQ"
+-- R47: on the last day of February or March, a net withdrawal short of the month's minimum; a month that added gas is short too.
 unfoldable pub breaksV5 : Date → Dth → Units → Bool
 breaksV5 d bcq net =
     (lastOfMonth d && (sameMonth (d .month) february || sameMonth (d .month) march))
     && below (opposite net) (percent (withdrawalMinimum (d .month)) bcq)
 
--- "V6 bank > 60 × BCQ on June 30 or 85 × BCQ on August 31"
+-- R48: a bank too full for the season, asked on two days of the year alone.
 unfoldable pub breaksV6 : Date → Dth → Units → Bool
 breaksV6 d bcq bank =
     (isOn june 30 d && above bank (percent 60 bcq)) || (isOn august 31 d && above bank (percent 85 bcq))
 
--- "V7 bank < 0"
+-- R49: an overdrawn bank; no excuse covers it.
 unfoldable pub breaksV7 : Units → Bool
 breaksV7 bank = below bank (record { 0 = 0 })
 
--- "V8 bank > 102 × BCQ, unless excused"
+-- R50: a bank above 102 percent of the BCQ in an account without excuse.
 unfoldable pub breaksV8 : Bool → Dth → Units → Bool
 breaksV8 excused bcq bank = not excused && above bank (percent 102 bcq)
 
--- "V7: cash-in up to minimum × BCQ. V8: cash-out down to maximum × BCQ."; "cash (in positive, out negative)"
+-- R52: an overdrawn bank is filled to the month's minimum; one far too full is emptied to the maximum, which gives cash below zero.
+-- No bank breaks both, so the order of the two does not matter.
 unfoldable pub cashOf : Month → Bool → Dth → Units → Units
 cashOf m excused bcq bank =
     cond (breaksV7 bank) (gap bank (percent (minimum m) bcq))
     (cond (breaksV8 excused bcq bank) (gap bank (percent (maximum m) bcq))
     nothing)
 
--- "If bank ≤ maximum × BCQ the excuse ends."
+-- R53: an excuse is needed no longer once the bank is at most the month's maximum.
 unfoldable pub endsExcuse : Month → Dth → Units → Bool
 endsExcuse m bcq bank = not (above bank (percent (maximum m) bcq))
 
--- max(0, a − q)
+-- R55, R57: max(0, a − q), what lies above a limit.
 unfoldable pub excessOver : Units → Quantity → Quantity
 excessOver a q = inward (less a q)
 
--- "Carry = max(0, −net − limit) from November to February, else 0."
+-- R55: a winter month's withdrawal beyond its limit is held against the next month; March ends the winter and leaves nothing.
 unfoldable pub carryOf : Month → Quantity → Units → Quantity
 carryOf m limit net = record { 0 = cond (winter m && not (sameMonth m march)) (excessOver (opposite net) limit .0) 0 }
 
--- "at the closing of January 31 bank above 65 × BCQ, of March 31 above 25 × BCQ, is forfeited, all of the excess"
+-- R57: what lies above 65 percent of the BCQ as January closes, or above 25 percent as March closes, is lost without pay.
 unfoldable pub forfeitOf : Month → Dth → Units → Quantity
 forfeitOf m bcq bank =
     record {
@@ -70,7 +71,7 @@ forfeitOf m bcq bank =
           0);
     }
 
--- "the violation mask (V1 is 1, V2 is 2, up to V8 128)"
+-- R51: one bit for each violation, V1 the lowest.
 unfoldable pub maskOf : Bool → Bool → Bool → Bool → Bool → Bool → Bool → Bool → ℕ
 maskOf v1 v2 v3 v4 v5 v6 v7 v8 =
     cond v1 1 0 + cond v2 2 0 + cond v3 4 0 + cond v4 8 0 + cond v5 16 0 + cond v6 32 0 + cond v7 64 0 + cond v8 128 0

@@ -1,4 +1,4 @@
--- Dates in the Gregorian calendar, 2000 to 2099.
+-- R5 to R9: dates in the Gregorian calendar, 2000 to 2099.
 use Prim.Native.Nat.{ℕ, _+_, _*_, _-_, _/_, _%_}
 use mathlib.Core.Bool.{Bool, cond, not, _&&_, _||_}
 use mathlib.Core.List.{List, [], _∷_}
@@ -8,46 +8,50 @@ use Rattle.tariff.specs.Months.{sameMonth, april, december}
 use Rattle.tariff.specs.declared.months.Month.{Month}
 use Rattle.tariff.specs.declared.dates.Date.{Date}
 
+-- R5: k divides n.
 unfoldable pub divides : ℕ → ℕ → Bool
 divides k n = eqb (n % k) 0
 
+-- R5: every fourth year, but of full centuries only every fourth.
 unfoldable pub leap : ℕ → Bool
 leap year = divides 4 year && (not (divides 100 year) || divides 400 year)
 
--- the lengths of a year's months, January to December
+-- R5: the lengths of a year's months, January to December.
 unfoldable pub lengths : ℕ → List ℕ
 lengths year = 31 ∷ cond (leap year) 29 28 ∷ 31 ∷ 30 ∷ 31 ∷ 30 ∷ 31 ∷ 31 ∷ 30 ∷ 31 ∷ 30 ∷ 31 ∷ []
 
+-- R5: a month's length in its year; months are counted from 1, the list from 0.
 unfoldable pub monthLength : ℕ → Month → ℕ
 monthLength year m = getD (lengths year) (m .0 - 1) 0
 
--- "no such date in 2000 to 2099" is what is not real
+-- R5: the date exists, within these hundred years.
 unfoldable pub real : Date → Bool
 real d =
     (leb 1 (d .month .0) && leb (d .month .0) 12)
     && (leb 2000 (d .year) && leb (d .year) 2099)
     && (leb 1 (d .day) && leb (d .day) (monthLength (d .year) (d .month)))
 
+-- R6: day, month and year all agree.
 unfoldable pub sameDate : Date → Date → Bool
 sameDate a b = eqb (a .year) (b .year) && sameMonth (a .month) (b .month) && eqb (a .day) (b .day)
 
--- the date is the day `day` of the month m, in any year
+-- R9: the date is the day `day` of the month m, in any year.
 unfoldable pub isOn : Month → ℕ → Date → Bool
 isOn m day d = sameMonth (d .month) m && eqb (d .day) day
 
--- "April 1", which begins a gas year
+-- R9: the day that begins a gas year.
 unfoldable pub firstOfGasYear : Date → Bool
 firstOfGasYear d = isOn april 1 d
 
--- the date closes its month
+-- R6: the date ends its month; V5 and the two closings ask for it too.
 unfoldable pub lastOfMonth : Date → Bool
 lastOfMonth d = eqb (d .day) (monthLength (d .year) (d .month))
 
--- "31 December 2099"
+-- R6: the end of the calendar, which no closing moves past.
 unfoldable pub lastDate : Date → Bool
 lastDate d = eqb (d .year) 2099 && isOn december 31 d
 
--- "The date moves on a day"
+-- R6: a month's last day leads to the first of the next month, December's to the next year.
 unfoldable pub dayAfter : Date → Date
 dayAfter d =
     record {
@@ -56,29 +60,31 @@ dayAfter d =
       day = cond (lastOfMonth d) 1 (d .day + 1);
     }
 
--- the sum of a list
+-- R7: the sum of a list.
 unfoldable pub total : List ℕ → ℕ
 total [] = 0
 total (n ∷ ns) = n + total ns
 
--- the number of days from 1 January 2000 to a date: years of 365 days, a leap day for every fourth year begun, months, days
+-- R7: days since 1 January 2000: 365 to a year, a leap day for every fourth year begun, then months and days.
+-- 2000 was a leap year and 2100 lies beyond, so no century is left out.
 unfoldable pub dayNumber : Date → ℕ
 dayNumber d =
     365 * (d .year - 2000) + (d .year - 2000 + 3) / 4 + total (take (d .month .0 - 1) (lengths (d .year))) + (d .day - 1)
 
--- the day of the week, Monday 0 to Sunday 6; 1 January 2000 was a Saturday
+-- R7: Monday 0 to Sunday 6; 1 January 2000 was a Saturday, 5.
 unfoldable pub weekday : Date → ℕ
 weekday d = (dayNumber d + 5) % 7
 
--- Monday to Friday
+-- R8: Monday to Friday; holidays play no part.
 unfoldable pub businessDay : Date → Bool
 businessDay d = ltb (weekday d) 5
 
--- "its day, the 25th or the next Monday to Friday": the first business day from the 25th on
+-- R8: the first business day from the 25th on; a weekend delays it by two days at most.
 unfoldable pub measurementDay : ℕ → Month → ℕ
 measurementDay year m =
     cond (businessDay (record { year = year; month = m; day = 25 })) 25
     (cond (businessDay (record { year = year; month = m; day = 26 })) 26 27)
 
+-- R8: the date is the measurement day of its own month.
 unfoldable pub onMeasurementDay : Date → Bool
 onMeasurementDay d = eqb (d .day) (measurementDay (d .year) (d .month))

@@ -1,4 +1,4 @@
--- DELIVER: the amount that enters the bank, and the two daily limits.
+-- R31 to R34: what a day's delivery adds to the bank, and the two limits on a day.
 use Prim.Native.Nat.{ℕ, _*_, _-_}
 use mathlib.Core.Bool.{Bool, cond, not, _||_}
 use lib.IntN.{pos, _-ℤ_, _*ℤ_}
@@ -11,20 +11,21 @@ use Rattle.tariff.specs.declared.amounts.Quantity.{Quantity}
 use Rattle.tariff.specs.declared.amounts.Units.{Units}
 use Rattle.tariff.specs.declared.months.Month.{Month}
 
--- "delivered less back-cast, × (10,000 − R) / 10,000"; "negative amounts round toward zero", as quotZ does
+-- R31: what retainage leaves of the gas brought less the back-cast. R4: toward zero, as quotZ rounds on both sides.
 unfoldable pub retained : ℕ → Quantity → Quantity → Units
 retained retainage delivered backCast =
     record { 0 = quotZ ((pos (delivered .0) -ℤ pos (backCast .0)) *ℤ pos (10000 - retainage)) (pos 10000) }
 
--- "25 … (30 for 25 in November, December)"
+-- R32: into how many days a month's MMBQ is divided.
 unfoldable pub daysOfInjection : Month → ℕ
 daysOfInjection m = cond (sameMonth m november || sameMonth m december) 30 25
 
--- "Injected amount j breaks V1 when 25 × j > MMBQ × BCQ"
+-- R32: a day's injection above its part of the month's MMBQ; multiplied out, so that no quotient is formed.
 unfoldable pub breaksV1 : Month → Dth → Units → Bool
 breaksV1 m bcq amount = ltb (percent (mmbq m) bcq .0) (daysOfInjection m * inward amount .0)
 
--- "Share: 100 if bank before ≥ 30 × BCQ or back-cast ≥ 100 × MDQ; else 80 from 20 × BCQ, 65 from 10 × BCQ, else 50."
+-- R33: the fuller the bank before the delivery, the more of the MDDQ is open; a back-cast of the MDQ or more opens all of it.
+-- 100 × MDQ is the MDQ in units.
 unfoldable pub shareOf : Units → Dth → Quantity → Dth → ℕ
 shareOf bank bcq backCast mdq =
     cond (not (below bank (percent 30 bcq)) || leb (100 * mdq .0) (backCast .0)) 100
@@ -32,6 +33,6 @@ shareOf bank bcq backCast mdq =
     (cond (not (below bank (percent 10 bcq))) 65
     50))
 
--- "Withdrawn amount breaks V2 when above share × MDDQ"
+-- R34: a day's withdrawal above that share of the MDDQ.
 unfoldable pub breaksV2 : ℕ → Dth → Units → Bool
 breaksV2 share mddq amount = ltb (percent share mddq .0) (outward amount .0)

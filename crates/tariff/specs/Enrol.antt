@@ -1,14 +1,14 @@
--- ENROL: who is served, and with how much in bank.
+-- R28, R29: who is served, and with how much in bank.
 use mathlib.Core.Bool.{Bool, not, _&&_, _||_}
 use lib.Dec.{ltb}
 use Rattle.tariff.specs.Amounts.{percent}
 use Rattle.tariff.specs.declared.amounts.Dth.{Dth}
 use Rattle.tariff.specs.declared.amounts.Quantity.{Quantity}
 
--- "process-only stays on FBS; else below 1,000 stays; 1,000 to 5,999 as wished; 6,000 up is EFBS"
+-- R28: small loads and those that do not follow the weather stay on FBS; from 1,000 Dth a supplier may choose, from 6,000 it is served.
 unfoldable pub staysOnFbs : Bool → Bool → Dth → Bool
 staysOnFbs processOnly wishes mdq = processOnly || ltb (mdq .0) 1000 || (ltb (mdq .0) 6000 && not wishes)
 
--- "opening above 25 × BCQ"
+-- R29: an opening bank above 25 percent of the BCQ that the account is about to get.
 unfoldable pub openingTooHigh : Quantity → Dth → Bool
 openingTooHigh opening bcq = ltb (percent 25 bcq .0) (opening .0)

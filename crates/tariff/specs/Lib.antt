@@ -1,3 +1,4 @@
+-- The tariff's rules by subject: numbers and calendar, then terms, enrolment, deliveries, steps, closings and the bill.
 pub mod Bounds
 pub mod Amounts
 pub mod Months

@@ -1,4 +1,4 @@
--- "Percentages are asked of the month itself, a type of its own with named constants. April to March"
+-- R9, R10: a month is its own type, and every percentage is asked of it; tables begin with April, as the gas year does.
 use Prim.Native.Nat.{ℕ, _+_, _%_}
 use mathlib.Core.Bool.{Bool}
 use mathlib.Core.List.{[], _∷_}
@@ -6,7 +6,7 @@ use lib.Dec.{eqb, leb}
 use lib.ListN.{getD}
 use Rattle.tariff.specs.declared.months.Month.{Month}
 
--- the months that rules name, by their numbers in the calendar year
+-- R9: the months that rules name, by their numbers in the calendar year.
 unfoldable pub january : Month
 january = record { 0 = 1 }
 
@@ -31,33 +31,35 @@ november = record { 0 = 11 }
 unfoldable pub december : Month
 december = record { 0 = 12 }
 
+-- R9: the same month, of whatever year.
 unfoldable pub sameMonth : Month → Month → Bool
 sameMonth a b = eqb (a .0) (b .0)
 
--- the month's place in the gas year: April is 0, March is 11
+-- R9: the place in the gas year: April is 0, March is 11.
 unfoldable pub gasMonth : Month → ℕ
 gasMonth m = (m .0 + 8) % 12
 
--- "November to March"
+-- R9: the months that limit withdrawals, November (place 7) and all after it.
 unfoldable pub winter : Month → Bool
 winter m = leb 7 (gasMonth m)
 
--- "minimum bank 0 0 14 34 54 75 88 95 78 59 36 18"
+-- R10: the least bank, in percent of the BCQ.
 unfoldable pub minimum : Month → ℕ
 minimum m = getD (0 ∷ 0 ∷ 14 ∷ 34 ∷ 54 ∷ 75 ∷ 88 ∷ 95 ∷ 78 ∷ 59 ∷ 36 ∷ 18 ∷ []) (gasMonth m) 0
 
--- "maximum bank 25 60 60 60 85 85 98 98 98 98 65 45"
+-- R10: the largest bank, in percent of the BCQ.
 unfoldable pub maximum : Month → ℕ
 maximum m = getD (25 ∷ 60 ∷ 60 ∷ 60 ∷ 85 ∷ 85 ∷ 98 ∷ 98 ∷ 98 ∷ 98 ∷ 65 ∷ 45 ∷ []) (gasMonth m) 0
 
--- "MMBQ 15 20 20 20 20 13 7 5 10 10 10 10"
+-- R10: the most that a month's deliveries may add, in percent of the BCQ.
+-- The company's later sheets print 18 for August and 9 for October; the 20 and 7 of the earlier ones hold here.
 unfoldable pub mmbq : Month → ℕ
 mmbq m = getD (15 ∷ 20 ∷ 20 ∷ 20 ∷ 20 ∷ 13 ∷ 7 ∷ 5 ∷ 10 ∷ 10 ∷ 10 ∷ 10 ∷ []) (gasMonth m) 0
 
--- "withdrawal maximum, November to March: 40 40 40 30 20"; the other months have none, and no rule asks it of them
+-- R10: the most that a winter month may withdraw, in percent of the BCQ; 0 stands where no rule goes by it.
 unfoldable pub withdrawalMaximum : Month → ℕ
 withdrawalMaximum m = getD (0 ∷ 0 ∷ 0 ∷ 0 ∷ 0 ∷ 0 ∷ 0 ∷ 40 ∷ 40 ∷ 40 ∷ 30 ∷ 20 ∷ []) (gasMonth m) 0
 
--- "withdrawal minimum: February 10, March 10"; the other months have none, and no rule asks it of them
+-- R10: the least that February and March must withdraw, in percent of the BCQ; 0 stands where no rule goes by it.
 unfoldable pub withdrawalMinimum : Month → ℕ
 withdrawalMinimum m = getD (0 ∷ 0 ∷ 0 ∷ 0 ∷ 0 ∷ 0 ∷ 0 ∷ 0 ∷ 0 ∷ 0 ∷ 10 ∷ 10 ∷ []) (gasMonth m) 0

@@ -1,4 +1,4 @@
--- TERMS: the quantities and rates in force, and what a step of MDQ is worth under them.
+-- R13, R26: the terms in force, and what a step of MDQ is worth under them.
 use Prim.Native.Nat.{ℕ, _*_, _/_}
 use mathlib.Core.Bool.{Bool, _&&_}
 use lib.Dec.{leb}
@@ -7,7 +7,8 @@ use Rattle.tariff.specs.declared.amounts.Dth.{Dth}
 use Rattle.tariff.specs.declared.terms.Terms.{Terms}
 use Rattle.tariff.specs.declared.terms.Capacity.{Capacity}
 
--- "w1 NN, daily no-notice quantity, 1 to 10^7; w2 DD, design day, NN to 10^8; w3 S, annual storage, NN to 100 × NN; w4 R, retainage, 0 to 9,999 ten-thousandths; w5 demand rate per Dth, w6 commodity rate per Mcf, mills, to 10^5"
+-- R13: NN is at least 1 and at most DD and S, so nothing below divides by 0 and an MDDQ is at most its MDQ's blocks.
+-- S of at most a hundred times NN keeps a BCQ within a hundred times its MDDQ.
 unfoldable pub termsInRange : Terms → Bool
 termsInRange t =
     (leb 1 (t .«no_notice» .0) && leb (t .«no_notice» .0) mostNoNotice)
@@ -16,14 +17,14 @@ termsInRange t =
     && leb (t .retainage) mostRetainage
     && (leb (t .«demand_rate») mostRate && leb (t .«commodity_rate») mostRate)
 
--- "MDDQ = floor(3,000 × k × NN / DD)"
+-- R26: a step's blocks of 3,000 Dth, scaled from the design day to the no-notice quantity. R4: rounded down.
 unfoldable pub mddqOf : Terms → ℕ → Dth
 mddqOf t k = record { 0 = 3000 * k * t .«no_notice» .0 / t .«design_day» .0 }
 
--- "BCQ = floor(MDDQ × S / NN)"
+-- R26: the storage that goes with an MDDQ, by the MDDQ already rounded. R4: rounded down once more.
 unfoldable pub bcqOf : Terms → Dth → Dth
 bcqOf t mddq = record { 0 = mddq .0 * t .storage .0 / t .«no_notice» .0 }
 
--- both, for a step k
+-- R26: both, for a step k.
 unfoldable pub capacityOf : Terms → ℕ → Capacity
 capacityOf t k = record { mddq = mddqOf t k; bcq = bcqOf t (mddqOf t k) }

@@ -138,7 +138,7 @@ impl Date {
     }
 }
 
-// The 25th, or the next day that is Monday to Friday.
+// The 25th, or the Monday after it where it falls on a weekend.
 pub fn measurement_day(year: u64, month: Month) -> u64
     requires { ⌜ (2000 ≤ year) × (year ≤ 2099) ⌝ }
     requires { ⌜ (1 ≤ month .0) × (month .0 ≤ 12) ⌝ }

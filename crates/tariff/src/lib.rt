@@ -15,7 +15,7 @@ pub mod terms;
 ghost use Rattle.tariff.specs.Calendar.{RightDays};
 ghost use Rattle.tariff.specs.MarkedCases.{MarkedCases};
 
-// Document 01's marked cases hold of the definitions, as one group.
+// The cases worked out in advance hold of the definitions, as one group.
 pub fn marked_cases()
     ensures { λ r. ⌜ MarkedCases ⌝ }
 {}
