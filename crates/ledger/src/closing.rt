@@ -4,7 +4,7 @@ ghost use mathlib.Core.Bool.{true, false, cond};
 ghost use Prim.Native.Nat.{_+_, _≤_};
 ghost use lib.Dec.{eqb};
 ghost use Rattle.tariff.specs.Amounts.{size, sizeMills};
-ghost use Rattle.tariff.specs.Dates.{real};
+ghost use Rattle.tariff.specs.Dates.{lastOfMonth, onMeasurementDay, real};
 ghost use Rattle.tariff.specs.Terms.{termsInRange};
 ghost use Rattle.tariff.specs.Bill.{pricesInRange};
 ghost use Rattle.ledger.specs.Kinds.{CLOSE-DAY, CLOSE-MONTH};
@@ -260,10 +260,11 @@ fn ready(ends: bool, reads: bool, a: Account) -> bool
     !a.opened | (a.today.delivered & measured & metered)
 }
 
-// All accounts at a closing, and whether every number stays in its range.
+// All accounts at a closing, whether they had what it asks for, and whether every number stays in its range.
 struct Closings {
     ledger: Ledger,
     reports: [Report; 16],
+    complete: bool,
     fits: bool,
 }
 
@@ -271,13 +272,17 @@ struct Closings {
 fn close_all(l: Ledger, e: Entry) -> Closings
     requires { ⌜ (admission l e ≡ 0) × (CLOSE-DAY ≤ e .kind) ⌝ }
     ensures closed { λ r. ⌜ (r .ledger ≡ closed l e .ledger) × (r .reports ≡ closed l e .answer .reports) ⌝ }
+    ensures complete { λ r. ⌜ r .complete ≡ everyAccount (ready (lastOfMonth (e .date)) (onMeasurementDay (e .date))) (l .accounts) ⌝ }
     ensures fits { λ r. ⌜ r .fits ≡ everyAccount (staysInRange (l .terms) e) (l .accounts) ⌝ }
 {
     let date = e.date;
+    let ends = date.last_of_month();
+    let reads = date.on_measurement_day();
     let terms = l.terms;
     let mut next = l;
     let quiet = quiet();
     let mut reports = [quiet; 16];
+    let mut complete = true;
     let mut fits = true;
     for i in 0..16 {
         let a = l.accounts[i];
@@ -286,9 +291,11 @@ fn close_all(l: Ledger, e: Entry) -> Closings
             let day = one.day;
             let account = one.account;
             let report = one.report;
+            let had = ready(ends, reads, a);
             let fit = account_in_range(day) & account_in_range(account);
             next.accounts[i] = account;
             reports[i] = report;
+            complete = complete & had;
             fits = fits & fit;
         }
     }
@@ -298,28 +305,20 @@ fn close_all(l: Ledger, e: Entry) -> Closings
     Closings {
         ledger: next,
         reports,
+        complete,
         fits,
     }
 }
 
-// What every account must have is asked before any is closed.
+// What is closed is a copy, which counts only where every account had what the closing asks for (docs/DECISIONS.md, 88).
 pub fn post_closing(l: Ledger, e: Entry) -> Posted
     requires { ⌜ (admission l e ≡ 0) × (CLOSE-DAY ≤ e .kind) ⌝ }
     ensures { λ r. ⌜ r ≡ postClosing l e ⌝ }
 {
-    let date = e.date;
-    let ends = date.last_of_month();
-    let reads = date.on_measurement_day();
-    let mut all = true;
-    for i in 0..16 {
-        let a = l.accounts[i];
-        let one = ready(ends, reads, a);
-        all = all & one;
-    }
-    if !all {
+    let closed = close_all(l, e);
+    if !closed.complete {
         return answered(l, 27);
     }
-    let closed = close_all(l, e);
     if !closed.fits {
         return answered(l, 29);
     }

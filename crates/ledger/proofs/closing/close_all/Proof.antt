@@ -11,10 +11,10 @@ use Rattle.ledger.proofs.Bounded.{account-ranged, begun-ranged}
 use Rattle.ledger.proofs.Lists.{every-end, every-next, every-pass, filled, filled-end, filled-kept, filled-next, length-mapped, withAccounts}
 use Rattle.ledger.proofs.RightEntries.{prices-fit}
 use Rattle.ledger.specs.Answers.{quiet}
-use Rattle.ledger.specs.Closing.{afterClosing, closed, closingOf, notOpen, reportOf, staysInRange}
+use Rattle.ledger.specs.Closing.{afterClosing, closed, closingOf, notOpen, ready, reportOf, staysInRange}
 use Rattle.ledger.specs.Ranges.{accountInRange, everyAccount}
 use Rattle.ledger.specs.State.{accountAt, noMonth, noToday, noTotals, nobody}
-use Rattle.tariff.specs.Dates.{real}
+use Rattle.tariff.specs.Dates.{lastOfMonth, onMeasurementDay, real}
 use Rattle.tariff.specs.Terms.{termsInRange}
 use mathlib.Core.List.{List}
 use Rattle.ledger.specs.declared.answers.Report.{Report}
@@ -37,15 +37,21 @@ module _ (l : Ledger) (e : Entry) (i : ℕ) where
 abbrev Agrees : Ledger → ℕ → (Account → Bool) → Bool → Type 0
 Agrees l i p so-far = so-far && everyAccount p (drop i (l .accounts)) ≡ everyAccount p (l .accounts)
 
+abbrev Ready : Entry → Account → Bool
+Ready e = ready (lastOfMonth (e .date)) (onMeasurementDay (e .date))
+
 abbrev Inv-loop : tie.InvT-loop
-Inv-loop e l date terms next₀ reports₀ fits₀ i₀ next reports fits i =
+Inv-loop e l date ends reads terms next₀ reports₀ complete₀ fits₀ i₀ next reports complete fits i =
     (i ≤ 16)
     × (next ≡ accountsTo l e i)
     × (reports ≡ reportsTo l e i)
+    × Agrees l i (Ready e) complete
     × Agrees l i (staysInRange (l .terms) e) fits
+    × (ends ≡ lastOfMonth (e .date))
+    × (reads ≡ onMeasurementDay (e .date))
 
 abbrev μ-loop : tie.MeasureT-loop
-μ-loop e l date terms next₀ reports₀ fits₀ i₀ next reports fits i = 16 - i
+μ-loop e l date ends reads terms next₀ reports₀ complete₀ fits₀ i₀ next reports complete fits i = 16 - i
 
 -- ---- one account further
 
@@ -64,7 +70,12 @@ module _ (l : Ledger) (e : Entry) (i : ℕ) (n : length (l .accounts) ≡ 16) (h
   unfolding accountAt staysInRange
   open-stays fits day end r one q v x y p = cc (every-next (staysInRange (l .terms) e) (l .accounts) i nobody fits (omega arith))
 
-  -- one that is not open stays as it is, and has nothing to report
+  open-complete : (complete had ends reads r : Bool) → Agrees l i (Ready e) complete → had ≡ ready ends reads (accountAt l i) → ends ≡ lastOfMonth (e .date) → reads ≡ onMeasurementDay (e .date) → r ≡ complete && had
+      → Agrees l (i + 1) (Ready e) r
+  unfolding accountAt
+  open-complete complete had ends reads r v x y z q = cc (every-next (Ready e) (l .accounts) i nobody complete (omega arith))
+
+  -- one that is not open stays as it is, lacks nothing, and has nothing to report
   module _ (o : accountAt l i .opened ≡ false) where
     shut : closingOf (l .terms) e (accountAt l i) ≡ notOpen (accountAt l i)
     unfolding closingOf
@@ -81,6 +92,10 @@ module _ (l : Ledger) (e : Entry) (i : ℕ) (n : length (l .accounts) ≡ 16) (h
         q
         ∙ v
         ∙ filled-kept (reportOf (l .terms) e) (l .accounts) (replicate 16 quiet) i nobody quiet (omega arith) (omega arith) (ap (λ (c : Closed). c .report) shut ∙ sym (getD-replicate 16 i quiet quiet h))
+
+    shut-complete : (complete r : Bool) → Agrees l i (Ready e) complete → r ≡ complete → Agrees l (i + 1) (Ready e) r
+    unfolding accountAt ready
+    shut-complete complete r v q = cc (every-pass (Ready e) (l .accounts) i nobody complete (omega arith) (rw o))
 
     shut-stays : (fits r : Bool) → accountInRange (accountAt l i) ≡ true → Agrees l i (staysInRange (l .terms) e) fits → r ≡ fits → Agrees l (i + 1) (staysInRange (l .terms) e) r
     unfolding accountAt staysInRange notOpen
@@ -105,7 +120,7 @@ module _ (s : tie.Start Inv-loop μ-loop) where
   ranged i h = account-ranged (s .args .t1) i sixteen h (is-ranged (s .args .t1) (s .args .e) (s .pre .0))
 
 loop-holds : tie.Need-loop-holds Inv-loop μ-loop
-loop-holds c = (search needs, refl, rw (c .quiet .ensures), refl)
+loop-holds c = (search needs, refl, rw (c .quiet .ensures), refl, refl, (let at : tie.After-last-of-month Inv-loop μ-loop = search in at .last-of-month .ensures), (let at : tie.After-on-measurement-day Inv-loop μ-loop = search in at .on-measurement-day .ensures))
 
 close-account-requires : tie.Need-close-account-requires Inv-loop μ-loop
 unfolding nobody noTotals noMonth noToday accountAt
@@ -122,10 +137,12 @@ loop-again c =
     let n : length (s .args .t1 .accounts) ≡ 16 = sixteen s in
     let h : v .loop .i < 16 = omega arith in
     let f = ranged s (v .loop .i) h in
+    let ended = v .loop .inv .5 in
+    let read = v .loop .inv .6 in
     let further : v .loop .i + 1 ≤ 16 = omega arith in
     ⊎-elim
-    (λ w. (further, search open-stored, search open-reported, search open-stays))
-    (λ w. (further, search shut-stored, search shut-reported, search shut-stays))
+    (λ w. (further, search open-stored, search open-reported, (let at : tie.After-ready Inv-loop μ-loop = search in open-complete (s .args .t1) (s .args .e) (v .loop .i) n h (v .loop .complete) _ _ _ (c .if1 .complete) (v .loop .inv .3) (at .ready .ensures) ended read (search)), search open-stays, v .loop .inv .5, v .loop .inv .6))
+    (λ w. (further, search shut-stored, search shut-reported, search shut-complete, search shut-stays, v .loop .inv .5, v .loop .inv .6))
     (c .if1 .came)
 
 returns : tie.Need-returns Inv-loop μ-loop
@@ -141,8 +158,17 @@ returns c =
         rw (v .loop .inv .1, c .day-after .ensures, filled-end (afterClosing (l .terms) e) (l .accounts) (l .accounts) i (omega (arith, n)) (omega (arith, n))),
         v .loop .inv .2 ∙ filled-end (reportOf (l .terms) e) (l .accounts) (replicate 16 quiet) i (omega (arith, n)) (omega arith),
       ),
-      sym (every-end (staysInRange (l .terms) e) (l .accounts) i (v .loop .fits) (omega (arith, n))) ∙ v .loop .inv .3,
+      (
+        sym (every-end (Ready e) (l .accounts) i (v .loop .complete) (omega (arith, n))) ∙ v .loop .inv .3,
+        sym (every-end (staysInRange (l .terms) e) (l .accounts) i (v .loop .fits) (omega (arith, n))) ∙ v .loop .inv .4,
+      ),
     )
+
+last-of-month-requires : tie.Need-last-of-month-requires Inv-loop μ-loop
+last-of-month-requires c κs = real-date (search)
+
+on-measurement-day-requires : tie.Need-on-measurement-day-requires Inv-loop μ-loop
+on-measurement-day-requires c κs = real-date (search)
 
 day-after-requires : tie.Need-day-after-requires Inv-loop μ-loop
 day-after-requires c κs = real-date (search)
@@ -174,4 +200,4 @@ loop-less c = search needs
 pub close-all-spec : {M : Type 1} → statement M
 close-all-spec {M = M} =
     tie.close
-    (search (needs, tie.spec {M = M} Inv-loop μ-loop, loop-holds, mul-a, element-copy-out-a, close-account-requires, mul-account, element-set-from-account, mul-reports, array-set-from-reports, add-i, loop-less, loop-again, day-after-requires, returns))
+    (search (needs, tie.spec {M = M} Inv-loop μ-loop, last-of-month-requires, on-measurement-day-requires, loop-holds, mul-a, element-copy-out-a, close-account-requires, mul-account, element-set-from-account, mul-reports, array-set-from-reports, add-i, loop-less, loop-again, day-after-requires, returns))
