@@ -1,5 +1,5 @@
 // Published rates and further cases of the tariff's arithmetic. The file stdout beside src/ holds the results, worked out by hand
-// from the company's sheets and docs/RULES.md.
+// from the company's sheets and the rules.
 use libc::STDOUT_FILENO;
 use tariff::amounts::Dth;
 use tariff::amounts::Mcf;
