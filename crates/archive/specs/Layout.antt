@@ -25,14 +25,6 @@ concatenated (s ∷ ss) = s ++ concatenated ss
 
 -- ---- the bytes
 
--- R71 and R75: room for every month of 2000 to 2099.
-abbrev pub mostSections : ℕ
-mostSections = 1200
-
--- R71 and R75: the largest number of four bytes, so that every offset and the file's end fit a pair.
-abbrev pub mostBytes : ℕ
-mostBytes = 4294967295
-
 -- R70: the letters EFB1.
 abbrev pub openingBytes : List ℕ
 openingBytes = 69 ∷ 70 ∷ 66 ∷ 49 ∷ []
@@ -57,3 +49,11 @@ packed ss = header (length ss) ++ directory (bodyAt (length ss)) ss ++ concatena
 -- R70: the archive of a list.
 unfoldable pub archiveOf : List ℕ → List ℕ
 archiveOf list = packed (sectionsOf (entriesOf list))
+
+-- R71 and R75: room for every month of 2000 to 2099.
+abbrev pub mostSections : ℕ
+mostSections = 1200
+
+-- R71 and R75: the largest number of four bytes, so that every offset and the file's end fit a pair.
+abbrev pub mostBytes : ℕ
+mostBytes = 4294967295

@@ -17,6 +17,10 @@ use Rattle.ledger.specs.declared.state.Today.{Today}
 use Rattle.ledger.specs.declared.entries.Entry.{Entry}
 use Rattle.ledger.specs.declared.changes.Change.{Change}
 
+-- R31: the amount of an entry under a retainage; the sums over a history ask for it too (R62).
+unfoldable pub amountUnder : ℕ → Entry → Units
+amountUnder retainage e = retained retainage (record { 0 = e .w1 }) (record { 0 = e .w2 })
+
 -- R35: net is moved by deliveries alone, since V3, V4 and V5 are about them (R45 to R47).
 unfoldable pub withNet : Totals → Units → Totals
 withNet m net =
@@ -43,10 +47,6 @@ unfoldable pub delivered : Month → Account → Units → Quantity → Account
 delivered m a amount backCast =
     withToday (withTotals (withBank a (sum (a .bank) amount)) (withNet (a .month .totals) (sum (a .month .totals .net) amount)))
     (deliveredToday m a amount backCast)
-
--- R31: the amount of an entry under a retainage; the sums over a history ask for it too (R62).
-unfoldable pub amountUnder : ℕ → Entry → Units
-amountUnder retainage e = retained retainage (record { 0 = e .w1 }) (record { 0 = e .w2 })
 
 -- R35: the account after an entry's delivery.
 unfoldable pub afterDelivery : ℕ → Account → Entry → Account

@@ -68,6 +68,26 @@ termsOf e =
 unfoldable pub pricesOf : Entry → Prices
 pricesOf e = record { inventory = e .w1; highest = e .w2; lowest = e .w3; pipeline = e .w4 }
 
+-- R13: gas that changes hands, at least one unit.
+unfoldable pub someUnits : ℕ → Bool
+someUnits w = leb 1 w && leb w mostUnits
+
+-- R13: every word that the kind uses is in its range; number 6 otherwise (R15).
+unfoldable pub wordsInRange : Entry → Bool
+wordsInRange e =
+    lookup (e .kind)
+    ((kinds.TERMS, termsInRange (termsOf e))
+    ∷ (kinds.ENROL, leb (e .w1) mostMdq && leb (e .w2) mostUnits)
+    ∷ (kinds.DELIVER, leb (e .w1) mostUnits && leb (e .w2) mostUnits)
+    ∷ (kinds.TRANSFER, someUnits (e .w1) && someUnits (e .w2))
+    ∷ (kinds.TRADE, someUnits (e .w1))
+    ∷ (kinds.MEASURE, leb (e .w1) mostMdq)
+    ∷ (kinds.USAGE, leb (e .w1) mostMcf)
+    ∷ (kinds.CLOSE-DAY, true)
+    ∷ (kinds.CLOSE-MONTH, pricesInRange (pricesOf e))
+    ∷ [])
+    false
+
 -- R14: ENROL's flags are 1 for a load that does not follow the weather and 2 for the wish to have EFBS; 3 is both.
 unfoldable pub processOnly : Entry → Bool
 processOnly e = eqb (e .flags % 2) 1
@@ -97,26 +117,6 @@ unusedSet k e =
     || (ltb (k .words) 4 && not (eqb (e .w4) 0))
     || (ltb (k .words) 5 && not (eqb (e .w5) 0))
     || (ltb (k .words) 6 && not (eqb (e .w6) 0))
-
--- R13: gas that changes hands, at least one unit.
-unfoldable pub someUnits : ℕ → Bool
-someUnits w = leb 1 w && leb w mostUnits
-
--- R13: every word that the kind uses is in its range; number 6 otherwise (R15).
-unfoldable pub wordsInRange : Entry → Bool
-wordsInRange e =
-    lookup (e .kind)
-    ((kinds.TERMS, termsInRange (termsOf e))
-    ∷ (kinds.ENROL, leb (e .w1) mostMdq && leb (e .w2) mostUnits)
-    ∷ (kinds.DELIVER, leb (e .w1) mostUnits && leb (e .w2) mostUnits)
-    ∷ (kinds.TRANSFER, someUnits (e .w1) && someUnits (e .w2))
-    ∷ (kinds.TRADE, someUnits (e .w1))
-    ∷ (kinds.MEASURE, leb (e .w1) mostMdq)
-    ∷ (kinds.USAGE, leb (e .w1) mostMcf)
-    ∷ (kinds.CLOSE-DAY, true)
-    ∷ (kinds.CLOSE-MONTH, pricesInRange (pricesOf e))
-    ∷ [])
-    false
 
 -- R15, number 7: giver and receiver are the same, or do not tell the same quantity.
 unfoldable pub wrongTransfer : Entry → Bool

@@ -15,6 +15,23 @@ use Rattle.ledger.specs.declared.state.Ledger.{Ledger}
 use Rattle.ledger.specs.declared.state.ThisMonth.{ThisMonth}
 use Rattle.ledger.specs.declared.state.Today.{Today}
 
+-- R16: an account from its parts.
+abbrev pub account : Bool → Bool → Today → Units → Dth → Step → Capacity → ThisMonth → Quantity → Mills → ℕ → Account
+account opened excused today bank mdq step capacity month carry owed days =
+    record {
+      opened = opened;
+      excused = excused;
+      today = today;
+      bank = bank;
+      mdq = mdq;
+      step = step;
+      capacity = capacity;
+      month = month;
+      carry = carry;
+      owed = owed;
+      «violation_days» = days;
+    }
+
 -- R17: a month in which nothing has happened yet; each CLOSE MONTH begins one (R44).
 unfoldable pub noTotals : Totals
 noTotals =
@@ -34,23 +51,6 @@ noMonth = record { totals = noTotals; measured = false; metered = false }
 -- R17: a day without its delivery; each closing begins one (R19).
 unfoldable pub noToday : Today
 noToday = record { delivered = false; v1 = false; v2 = false }
-
--- R16: an account from its parts.
-abbrev pub account : Bool → Bool → Today → Units → Dth → Step → Capacity → ThisMonth → Quantity → Mills → ℕ → Account
-account opened excused today bank mdq step capacity month carry owed days =
-    record {
-      opened = opened;
-      excused = excused;
-      today = today;
-      bank = bank;
-      mdq = mdq;
-      step = step;
-      capacity = capacity;
-      month = month;
-      carry = carry;
-      owed = owed;
-      «violation_days» = days;
-    }
 
 -- R17: an account that is not open, every number 0 and every mark off.
 unfoldable pub nobody : Account

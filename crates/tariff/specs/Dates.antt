@@ -35,17 +35,13 @@ real d =
 unfoldable pub sameDate : Date → Date → Bool
 sameDate a b = eqb (a .year) (b .year) && sameMonth (a .month) (b .month) && eqb (a .day) (b .day)
 
--- R9: the date is the day `day` of the month m, in any year.
-unfoldable pub isOn : Month → ℕ → Date → Bool
-isOn m day d = sameMonth (d .month) m && eqb (d .day) day
-
--- R9: the day that begins a gas year.
-unfoldable pub firstOfGasYear : Date → Bool
-firstOfGasYear d = isOn april 1 d
-
 -- R6: the date ends its month; V5 and the two closings ask for it too.
 unfoldable pub lastOfMonth : Date → Bool
 lastOfMonth d = eqb (d .day) (monthLength (d .year) (d .month))
+
+-- R9: the date is the day `day` of the month m, in any year.
+unfoldable pub isOn : Month → ℕ → Date → Bool
+isOn m day d = sameMonth (d .month) m && eqb (d .day) day
 
 -- R6: the end of the calendar, which no closing moves past.
 unfoldable pub lastDate : Date → Bool
@@ -88,3 +84,7 @@ measurementDay year m =
 -- R8: the date is the measurement day of its own month.
 unfoldable pub onMeasurementDay : Date → Bool
 onMeasurementDay d = eqb (d .day) (measurementDay (d .year) (d .month))
+
+-- R9: the day that begins a gas year.
+unfoldable pub firstOfGasYear : Date → Bool
+firstOfGasYear d = isOn april 1 d

@@ -15,7 +15,7 @@ post-closing-requires c κs =
 
 returns-4 : tie.Need-returns-4
 unfolding postSeveral lookup
-returns-4 c = ⊎-elim (λ k. search at) (λ k. search at) (c .before .match .came)
+returns-4 c = ⊎-elim (λ k. search at) (λ k. search at) (let at : tie.At-match-came = search in at .match .came)
 
 pub post-several-spec : {M : Type 1} → statement M
 unfolding postSeveral lookup
