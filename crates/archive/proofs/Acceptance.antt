@@ -8,7 +8,7 @@ use mathlib.Core.List.{List, map}
 use lib.Dec.{eqb, ltb}
 use lib.ListN.{length}
 use Rattle.tariff.proofs.Bools.{or-left, or-right}
-use Rattle.ledger.specs.Entries.{formNumber}
+use Rattle.ledger.specs.Forms.{formNumber}
 use Rattle.archive.specs.Entries.{entriesOf, finding, firstRefusal}
 use Rattle.archive.specs.Layout.{sectionsOf, archiveOf}
 use Rattle.archive.specs.Writing.{listChecked, tooLarge, unwritten, written}

@@ -8,7 +8,7 @@ use mathlib.Core.List.{List, [], _∷_}
 use lib.Dec.{eqb}
 use lib.ListN.{length}
 use lib.Seq.{take-all}
-use Rattle.ledger.specs.Entries.{formNumber}
+use Rattle.ledger.specs.Forms.{formNumber}
 use Rattle.archive.specs.Entries.{firstEntries, entriesOf, closesMonth}
 use Rattle.archive.specs.Reading.{misplaced, numberIn}
 

@@ -7,7 +7,7 @@ use mathlib.Core.Bool.{Bool, true, false, cond}
 use mathlib.Core.List.{List, [], _∷_, _++_, map, map-append, append-assoc, append-nil}
 use lib.Dec.{eqb, eqb·suc-zero}
 use lib.ListN.{length, length-append}
-use Rattle.ledger.specs.Entries.{formNumber}
+use Rattle.ledger.specs.Forms.{formNumber}
 use Rattle.archive.specs.Entries.{firstEntries, entriesOf, closesMonth}
 use Rattle.archive.specs.Layout.{joined, sectionsOf, concatenated}
 use Rattle.archive.specs.Reading.{misplaced, numberIn, numbersIn, numbersOf}

@@ -4,7 +4,7 @@ use mathlib.Core.Bool.{Bool, cond, not, _&&_, _||_}
 use mathlib.Core.List.{List, [], _∷_, _++_, map}
 use lib.Dec.{eqb, ltb}
 use lib.ListN.{length, getD, take, drop}
-use Rattle.ledger.specs.Entries.{formNumber}
+use Rattle.ledger.specs.Forms.{formNumber}
 use Rattle.ledger.specs.Entries.{halfAt, wordAt}
 use Rattle.archive.specs.Entries.{entriesOf, closesMonth, finding, firstRefusal}
 use Rattle.archive.specs.Layout.{mostBytes, mostSections, openingBytes, bodyAt}

@@ -4,7 +4,7 @@ use mathlib.Core.Bool.{Bool, cond, _||_}
 use mathlib.Core.List.{List, _++_, map}
 use lib.Dec.{eqb, ltb}
 use lib.ListN.{length, drop}
-use Rattle.ledger.specs.Entries.{formNumber}
+use Rattle.ledger.specs.Forms.{formNumber}
 use Rattle.archive.specs.Entries.{entriesOf, firstRefusal}
 use Rattle.archive.specs.Layout.{mostBytes, mostSections, sectionsOf, archiveOf}
 use Rattle.archive.specs.declared.entries.Checked.{Checked}

@@ -7,7 +7,7 @@ use borrow.Author.Tests.{eqb-true, eq-eqb, ne-eqb, not-false}
 use Rattle.tariff.specs.Dates.{real}
 use Rattle.ledger.specs.Checks.{verdict}
 use Rattle.ledger.specs.Kinds.{kindOf}
-use Rattle.ledger.specs.Entries.{fieldChecks, fieldNumber, entryChecks, entryNumber}
+use Rattle.ledger.specs.Forms.{fieldChecks, fieldNumber, entryChecks, entryNumber}
 use Rattle.ledger.specs.Ranges.{inRange}
 use Rattle.ledger.specs.Days.{wrongDay}
 use Rattle.ledger.specs.Posting.{standingChecks, admission}

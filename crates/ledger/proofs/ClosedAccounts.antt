@@ -9,11 +9,14 @@ use lib.ListN.{getD, List·getD-map}
 use Rattle.tariff.specs.Amounts.{inward, outward, sum, less, added}
 use Rattle.tariff.specs.declared.amounts.Units.{Units}
 use Rattle.tariff.specs.declared.terms.Terms.{Terms}
+use Rattle.tariff.proofs.Bools.{either}
 use Rattle.tariff.proofs.Laws.{sum-value, less-value, added-value, in-and-out, inward-zero, outward-zero}
 use Rattle.ledger.specs.Entries.{pricesOf}
 use Rattle.ledger.specs.State.{nobody, accountAt, withBank, withCapacity, withCarry, withDays, withExcuse, withMeasure, withMonth, withToday, withTotals}
 use Rattle.ledger.specs.Answers.{quiet}
-use Rattle.ledger.specs.Closing.{violationsOf, cashAt, dayEnd, afterDay, forfeitAt, billAt, monthEnd, afterMonth, dayClosing, monthClosing, notOpen, closingOf, afterClosing, reportOf, closed}
+use Rattle.ledger.specs.Closing.{violationsOf, cashAt, dayEnd, afterDay, forfeitAt, billAt, monthEnd, afterMonth, dayClosing, monthClosing, leftAlone, closingOf, afterClosing, reportOf}
+use Rattle.ledger.specs.Closings.{closed}
+use Rattle.ledger.proofs.KindCases.{done, each, _then_}
 use Rattle.ledger.specs.Panel.{openBank}
 use Rattle.ledger.specs.declared.state.Account.{Account}
 use Rattle.ledger.specs.declared.state.Ledger.{Ledger}
@@ -71,9 +74,9 @@ unfolding quiet
 quiet-mask = refl
 
 module _ (t : Terms) (e : Entry) (a : Account) where
-  of-not-open : a .opened ≡ false → Accounted a (notOpen a)
-  unfolding notOpen quiet openBank
-  of-not-open o =
+  of-none : Accounted a (leftAlone a)
+  unfolding leftAlone quiet openBank
+  of-none =
       record {
         bank = rw (inward-zero (quiet .cash) refl, outward-zero (quiet .cash) refl) (sym (+ℤ-idr (openBank a)));
         owed = sym (+ℤ-idr (openOwed a));
@@ -125,22 +128,20 @@ module _ (t : Terms) (e : Entry) (a : Account) where
 
   pub accounted : Accounted a (closingOf t e a)
   unfolding closingOf
-  accounted = go (a .opened) (eqb (e .kind) 9) refl
-    where
-      go : (o k : Bool) → a .opened ≡ o → Accounted a (cond o (cond k (monthClosing (e .date) t (pricesOf e) a) (dayClosing (e .date) a)) (notOpen a))
-      go true true o = of-month o
-      go true false o = of-day o
-      go false k o = of-not-open o
+  accounted =
+      either (Accounted a) (a .opened) _ _
+      (λ o. each (Accounted a) (e .kind) (leftAlone a) ((λ _. of-day o) then (λ _. of-month o) then done) of-none)
+      (λ _. of-none)
 
 -- ---- an account of the closed ledger, and what was reported of it
 
 module _ (t : Terms) (e : Entry) where
   nobody-closed : afterClosing t e nobody ≡ nobody
-  unfolding afterClosing closingOf notOpen nobody
+  unfolding afterClosing closingOf leftAlone nobody
   nobody-closed = refl
 
   nobody-reported : reportOf t e nobody ≡ quiet
-  unfolding reportOf closingOf notOpen nobody
+  unfolding reportOf closingOf leftAlone nobody
   nobody-reported = refl
 
 module _ (l : Ledger) (e : Entry) (i : ℕ) where

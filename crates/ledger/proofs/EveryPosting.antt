@@ -19,7 +19,7 @@ use Rattle.ledger.specs.Transfer.{postTransfer}
 use Rattle.ledger.specs.Trade.{trade}
 use Rattle.ledger.specs.Measure.{measurement}
 use Rattle.ledger.specs.Usage.{usage}
-use Rattle.ledger.specs.Closing.{postClosing, closingChecks, closed}
+use Rattle.ledger.specs.Closings.{postClosing, closingChecks, closed}
 use Rattle.ledger.specs.Posting.{admission, postSeveral, changeOf, stored, postKind, postEntry, posted}
 use Rattle.ledger.specs.declared.state.Account.{Account}
 use Rattle.ledger.specs.declared.state.Ledger.{Ledger}

@@ -7,7 +7,8 @@ use native.Mathlib.Omega.{arith}
 use lib.Dec.{eqb}
 use lib.ListN.{length, getD}
 use borrow.Author.Tests.{eqb-true}
-use Rattle.ledger.specs.Entries.{byteAt, entryNumber, entryOf, formNumber, halfAt, wordAt}
+use Rattle.ledger.specs.Entries.{byteAt, entryOf, halfAt, wordAt}
+use Rattle.ledger.specs.Forms.{entryNumber, formNumber}
 
 module _ (bytes : List ℕ) where
   pub kind-byte : entryOf bytes .kind ≡ getD bytes 0 0

@@ -10,7 +10,8 @@ use Rattle.tariff.specs.Bill.{pricesInRange}
 use Rattle.tariff.proofs.Bools.{and-left, and-right, or-left, or-right, parts}
 use Rattle.ledger.specs.Kinds as kinds
 use Rattle.ledger.specs.Kinds.{lookup, kindOf}
-use Rattle.ledger.specs.Entries.{termsOf, pricesOf, accountTooHigh, someUnits, wordsInRange, wrongTransfer, fieldChecks, fieldNumber}
+use Rattle.ledger.specs.Entries.{termsOf, pricesOf}
+use Rattle.ledger.specs.Forms.{accountTooHigh, someUnits, wordsInRange, wrongTransfer, fieldChecks, fieldNumber}
 use Rattle.ledger.specs.declared.entries.Entry.{Entry}
 use Rattle.ledger.proofs.Verdicts.{clear}
 

@@ -17,7 +17,8 @@ use Rattle.ledger.specs.Checks.{verdict}
 use Rattle.ledger.specs.Entries.{entryOf}
 use Rattle.ledger.specs.State.{accountAt}
 use Rattle.ledger.specs.Ranges.{accountInRange, everyAccount, inRange}
-use Rattle.ledger.specs.Closing.{closingOf, afterClosing, reportOf, staysInRange, closingChecks, closed}
+use Rattle.ledger.specs.Closing.{closingOf, afterClosing, reportOf, staysInRange}
+use Rattle.ledger.specs.Closings.{closingChecks, closed}
 use Rattle.ledger.specs.Kinds.{lookup}
 use Rattle.ledger.specs.Days.{wrongDay}
 use Rattle.ledger.specs.Posting.{admission}

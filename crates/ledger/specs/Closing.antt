@@ -1,11 +1,10 @@
--- A closing: violations, cash and, as a month ends, the bill, for each open account by itself; then it is the next day.
+-- One account at a closing: violations, cash and, as a month ends, the bill.
 use Prim.Native.Nat.{ℕ, _+_}
-use mathlib.Core.Bool.{Bool, false, cond, not, _&&_, _||_}
-use mathlib.Core.List.{List, [], _∷_, map}
+use mathlib.Core.Bool.{Bool, cond, not, _&&_, _||_}
+use mathlib.Core.List.{[], _∷_}
 use lib.Dec.{eqb}
 use lib.IntN.{pos}
 use Rattle.tariff.specs.Amounts.{sum, less, inward, outward, together, added}
-use Rattle.tariff.specs.Dates.{lastOfMonth, dayAfter, onMeasurementDay}
 use Rattle.tariff.specs.Terms.{capacityOf}
 use Rattle.tariff.specs.Steps.{settledStep, falls}
 use Rattle.tariff.specs.Closing.{withdrawalLimit, breaksV3, breaksV4, breaksV5, breaksV6, breaksV7, breaksV8, cashOf, endsExcuse, carryOf, forfeitOf, maskOf}
@@ -20,16 +19,14 @@ use Rattle.tariff.specs.declared.terms.Capacity.{Capacity}
 use Rattle.tariff.specs.declared.steps.Step.{Step}
 use Rattle.tariff.specs.declared.terms.Terms.{Terms}
 use Rattle.ledger.specs.Kinds as kinds
-use Rattle.ledger.specs.Checks.{Check, verdict}
+use Rattle.ledger.specs.Kinds.{lookup}
 use Rattle.ledger.specs.Entries.{pricesOf}
 use Rattle.ledger.specs.State.{noMonth, noToday, withBank, withCapacity, withCarry, withDays, withExcuse, withMeasure, withMonth, withToday, withTotals}
-use Rattle.ledger.specs.Ranges.{accountInRange, everyAccount}
-use Rattle.ledger.specs.Answers.{quiet, refused}
+use Rattle.ledger.specs.Ranges.{accountInRange}
+use Rattle.ledger.specs.Answers.{quiet}
 use Rattle.ledger.specs.declared.state.Account.{Account}
-use Rattle.ledger.specs.declared.state.Ledger.{Ledger}
 use Rattle.ledger.specs.declared.entries.Entry.{Entry}
 use Rattle.ledger.specs.declared.answers.Report.{Report}
-use Rattle.ledger.specs.declared.answers.Posted.{Posted}
 use Rattle.ledger.specs.declared.closing.Closed.{Closed}
 
 -- ---- the day's part (R44, stages 1 to 5); d is the day that is closed
@@ -143,16 +140,20 @@ monthClosing d t p a =
           };
     }
 
--- R20: an account that is not open stays exactly as it is, and zeros are reported of it.
-unfoldable pub notOpen : Account → Closed
-notOpen a = record { day = a; account = a; report = quiet }
+-- R20: an account that no closing touches stays exactly as it is, and zeros are reported of it.
+unfoldable pub leftAlone : Account → Closed
+leftAlone a = record { day = a; account = a; report = quiet }
 
--- R44: what the entry's kind of closing makes of one account.
+-- R44: what the entry's kind of closing makes of one account; of one that is not open, nothing.
 unfoldable pub closingOf : Terms → Entry → Account → Closed
 closingOf t e a =
     cond (a .opened)
-    (cond (eqb (e .kind) kinds.CLOSE-MONTH) (monthClosing (e .date) t (pricesOf e) a) (dayClosing (e .date) a))
-    (notOpen a)
+    (lookup (e .kind)
+    ((kinds.CLOSE-DAY, dayClosing (e .date) a)
+    ∷ (kinds.CLOSE-MONTH, monthClosing (e .date) t (pricesOf e) a)
+    ∷ [])
+    (leftAlone a))
+    (leftAlone a)
 
 -- R59: of that the account goes to the ledger, the report to the answer.
 unfoldable pub afterClosing : Terms → Entry → Account → Account
@@ -161,7 +162,7 @@ afterClosing t e a = closingOf t e a .account
 unfoldable pub reportOf : Terms → Entry → Account → Report
 reportOf t e a = closingOf t e a .report
 
--- ---- the checks, and the ledger afterwards
+-- ---- what is asked of an account
 
 -- R43: an open account has its delivery, its measurement if the day reads the meters, and its consumption if it ends the month.
 unfoldable pub ready : Bool → Bool → Account → Bool
@@ -170,30 +171,3 @@ ready ends reads a = not (a .opened) || (a .today .delivered && (not reads || a 
 -- R58: also the account after the day's part is asked, as the month's end would clear a total that had grown too large.
 unfoldable pub staysInRange : Terms → Entry → Account → Bool
 staysInRange t e a = accountInRange (closingOf t e a .day) && accountInRange (closingOf t e a .account)
-
--- R44: 27, then 29. The right closing for the day, 23, was asked before (R42).
-unfoldable pub closingChecks : Ledger → Entry → List Check
-closingChecks l e =
-    (not (everyAccount (ready (lastOfMonth (e .date)) (onMeasurementDay (e .date))) (l .accounts)), 27)
-    ∷ (not (everyAccount (staysInRange (l .terms) e) (l .accounts)), 29)
-    ∷ []
-
--- R59: sixteen reports, and the next day, on which nothing has been accepted yet.
-unfoldable pub closed : Ledger → Entry → Posted
-closed l e =
-    record {
-      answer = record { number = 0; reports = map (reportOf (l .terms) e) (l .accounts) };
-      ledger =
-          record {
-            begun = l .begun;
-            touched = false;
-            date = dayAfter (e .date);
-            terms = l .terms;
-            accounts = map (afterClosing (l .terms) e) (l .accounts);
-          };
-    }
-
--- R58: a single account can refuse the closing, and then none is closed.
-unfoldable pub postClosing : Ledger → Entry → Posted
-postClosing l e =
-    cond (eqb (verdict (closingChecks l e)) 0) (closed l e) (refused l (verdict (closingChecks l e)))

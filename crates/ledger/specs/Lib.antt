@@ -2,6 +2,7 @@
 pub mod Checks
 pub mod Kinds
 pub mod Entries
+pub mod Forms
 pub mod State
 pub mod Ranges
 pub mod Answers
@@ -14,6 +15,7 @@ pub mod Trade
 pub mod Measure
 pub mod Usage
 pub mod Closing
+pub mod Closings
 pub mod Days
 pub mod Posting
 pub mod Panel

@@ -9,7 +9,8 @@ use Rattle.tariff.specs.declared.terms.Terms.{Terms}
 use Rattle.ledger.specs.Checks.{Check, verdict}
 use Rattle.ledger.specs.Kinds as kinds
 use Rattle.ledger.specs.Kinds.{lookup, kindOf}
-use Rattle.ledger.specs.Entries.{entryOf, entryChecks}
+use Rattle.ledger.specs.Entries.{entryOf}
+use Rattle.ledger.specs.Forms.{entryChecks}
 use Rattle.ledger.specs.Ranges.{inRange}
 use Rattle.ledger.specs.State.{accountAt, withAccount}
 use Rattle.ledger.specs.Answers.{refused, settle}
@@ -20,7 +21,7 @@ use Rattle.ledger.specs.Transfer.{postTransfer}
 use Rattle.ledger.specs.Trade.{trade}
 use Rattle.ledger.specs.Measure.{measurement}
 use Rattle.ledger.specs.Usage.{usage}
-use Rattle.ledger.specs.Closing.{postClosing}
+use Rattle.ledger.specs.Closings.{postClosing}
 use Rattle.ledger.specs.Days.{wrongDay}
 use Rattle.ledger.specs.declared.state.Account.{Account}
 use Rattle.ledger.specs.declared.state.Ledger.{Ledger}

@@ -1,28 +1,22 @@
-// CLOSE DAY and CLOSE MONTH.
+// One account at CLOSE DAY and CLOSE MONTH.
 ghost use mathlib.Core.Path.{_≡_};
-ghost use mathlib.Core.Bool.{true, false, cond};
+ghost use mathlib.Core.Bool.{true, cond};
 ghost use Prim.Native.Nat.{_+_, _≤_};
 ghost use lib.Dec.{eqb};
 ghost use Rattle.tariff.specs.Amounts.{size, sizeMills};
-ghost use Rattle.tariff.specs.Dates.{lastOfMonth, onMeasurementDay, real};
+ghost use Rattle.tariff.specs.Dates.{real};
 ghost use Rattle.tariff.specs.Terms.{termsInRange};
 ghost use Rattle.tariff.specs.Bill.{pricesInRange};
-ghost use Rattle.ledger.specs.Kinds.{CLOSE-DAY, CLOSE-MONTH};
+ghost use Rattle.ledger.specs.Kinds.{CLOSE-MONTH};
 ghost use Rattle.ledger.specs.Entries.{pricesOf};
-ghost use Rattle.ledger.specs.Ranges.{accountInRange, everyAccount};
-ghost use Rattle.ledger.specs.Posting.{admission};
-ghost use Rattle.ledger.specs.Closing.{limitOf, violationsOf, cashAt, withCash, excusedStill, dayEnd, monthEnd, dayClosing, monthClosing, closingOf, staysInRange, ready, closed, postClosing};
+ghost use Rattle.ledger.specs.Ranges.{accountInRange};
+ghost use Rattle.ledger.specs.Closing.{limitOf, violationsOf, cashAt, withCash, excusedStill, dayEnd, monthEnd, dayClosing, monthClosing, leftAlone, closingOf, ready};
 ghost use Rattle.tariff.specs.Bounds.{mostBank, mostBcq, mostDays, mostOwed};
-use crate::answers::Answer;
-use crate::answers::Posted;
 use crate::answers::Report;
-use crate::answers::answered;
 use crate::answers::quiet;
 use crate::entries::Entry;
 use crate::kinds;
-use crate::ranges::account_in_range;
 use crate::state::Account;
-use crate::state::Ledger;
 use crate::state::no_month;
 use crate::state::no_today;
 use tariff::amounts::Mills;
@@ -237,96 +231,38 @@ fn close_month(d: Date, t: Terms, p: Prices, a: Account) -> Closed
     }
 }
 
-fn close_account(t: Terms, e: Entry, a: Account) -> Closed
+// What no closing touches: it stays as it is, and nothing is reported of it.
+fn left_alone(a: Account) -> Closed
+    ensures { λ r. ⌜ r ≡ leftAlone a ⌝ }
+{
+    let report = quiet();
+    Closed {
+        day: a,
+        account: a,
+        report,
+    }
+}
+
+pub fn close_account(t: Terms, e: Entry, a: Account) -> Closed
     requires { ⌜ (real (e .date) ≡ true) × (accountInRange a ≡ true) × (termsInRange t ≡ true) × (e .kind ≡ CLOSE-MONTH → pricesInRange (pricesOf e) ≡ true) ⌝ }
     requires opened { ⌜ a .opened ≡ true ⌝ }
     ensures { λ r. ⌜ r ≡ closingOf t e a ⌝ }
 {
     let date = e.date;
     let kind = e.kind;
-    if kind == kinds::CLOSE_MONTH {
-        return close_month(date, t, e.prices(), a);
+    match kind {
+        kinds::CLOSE_DAY => close_day(date, a),
+        kinds::CLOSE_MONTH => close_month(date, t, e.prices(), a),
+        _ => left_alone(a),
     }
-    close_day(date, a)
 }
 
 // Whether an account has all that its closing asks for, on a day that ends a month or not and reads the meters or not.
-fn ready(ends: bool, reads: bool, a: Account) -> bool
+pub fn ready(ends: bool, reads: bool, a: Account) -> bool
     ensures { λ r. ⌜ r ≡ ready ends reads a ⌝ }
 {
     let month = a.month;
     let measured = !reads | month.measured;
     let metered = !ends | month.metered;
     !a.opened | (a.today.delivered & measured & metered)
-}
-
-// All accounts at a closing, whether they had what it asks for, and whether every number stays in its range.
-struct Closings {
-    ledger: Ledger,
-    reports: [Report; 16],
-    complete: bool,
-    fits: bool,
-}
-
-// An account that is not open stays as it is, and has nothing to report.
-fn close_all(l: Ledger, e: Entry) -> Closings
-    requires { ⌜ (admission l e ≡ 0) × (CLOSE-DAY ≤ e .kind) ⌝ }
-    ensures closed { λ r. ⌜ (r .ledger ≡ closed l e .ledger) × (r .reports ≡ closed l e .answer .reports) ⌝ }
-    ensures complete { λ r. ⌜ r .complete ≡ everyAccount (ready (lastOfMonth (e .date)) (onMeasurementDay (e .date))) (l .accounts) ⌝ }
-    ensures fits { λ r. ⌜ r .fits ≡ everyAccount (staysInRange (l .terms) e) (l .accounts) ⌝ }
-{
-    let date = e.date;
-    let ends = date.last_of_month();
-    let reads = date.on_measurement_day();
-    let terms = l.terms;
-    let mut next = l;
-    let quiet = quiet();
-    let mut reports = [quiet; 16];
-    let mut complete = true;
-    let mut fits = true;
-    for i in 0..16 {
-        let a = l.accounts[i];
-        if a.opened {
-            let one = close_account(terms, e, a);
-            let day = one.day;
-            let account = one.account;
-            let report = one.report;
-            let had = ready(ends, reads, a);
-            let fit = account_in_range(day) & account_in_range(account);
-            next.accounts[i] = account;
-            reports[i] = report;
-            complete = complete & had;
-            fits = fits & fit;
-        }
-    }
-    let tomorrow = date.day_after();
-    next.date = tomorrow;
-    next.touched = false;
-    Closings {
-        ledger: next,
-        reports,
-        complete,
-        fits,
-    }
-}
-
-// What is closed is a copy, which counts only where every account had what the closing asks for (docs/DECISIONS.md, 88).
-pub fn post_closing(l: Ledger, e: Entry) -> Posted
-    requires { ⌜ (admission l e ≡ 0) × (CLOSE-DAY ≤ e .kind) ⌝ }
-    ensures { λ r. ⌜ r ≡ postClosing l e ⌝ }
-{
-    let closed = close_all(l, e);
-    if !closed.complete {
-        return answered(l, 27);
-    }
-    if !closed.fits {
-        return answered(l, 29);
-    }
-    let reports = closed.reports;
-    let next = closed.ledger;
-    let answer = Answer { number: 0, reports };
-    Posted {
-        answer,
-        ledger: next,
-    }
 }

@@ -6,7 +6,7 @@ ghost use Rattle.tariff.specs.Amounts.{size};
 ghost use Rattle.tariff.specs.Terms.{termsInRange};
 ghost use Rattle.ledger.specs.Kinds.{DELIVER};
 ghost use Rattle.ledger.specs.Ranges.{accountInRange};
-ghost use Rattle.ledger.specs.Entries.{fieldNumber};
+ghost use Rattle.ledger.specs.Forms.{fieldNumber};
 ghost use Rattle.ledger.specs.Deliver.{delivered, delivery};
 ghost use Rattle.tariff.specs.Bounds.{mostUnits};
 use crate::changes::Change;

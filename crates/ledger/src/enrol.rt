@@ -4,7 +4,7 @@ ghost use mathlib.Core.Bool.{true};
 ghost use Prim.Native.Nat.{_≤_};
 ghost use Rattle.tariff.specs.Terms.{termsInRange};
 ghost use Rattle.ledger.specs.Kinds.{ENROL};
-ghost use Rattle.ledger.specs.Entries.{fieldNumber};
+ghost use Rattle.ledger.specs.Forms.{fieldNumber};
 ghost use Rattle.ledger.specs.Ranges.{accountInRange};
 ghost use Rattle.ledger.specs.Enrol.{newAccount, enrolment};
 ghost use Rattle.tariff.specs.Bounds.{mostBcq, mostMdq, mostUnits};

@@ -1,17 +1,10 @@
-// An entry of 32 bytes, taken apart, and what is wrong with it by itself.
+// An entry of 32 bytes, taken apart, and what its words and flags mean.
 ghost use mathlib.Core.Path.{_≡_};
 ghost use Prim.Native.Nat.{_+_, _<_, _≤_};
 ghost use lib.ListN.{length};
-ghost use Rattle.ledger.specs.Entries.{byteAt, wordAt, entryOf, termsOf, pricesOf, processOnly, wishes, companySells, accountTooHigh, unusedSet, someUnits, wordsInRange, wrongTransfer, entryNumber};
-use crate::checks::refuse;
-use crate::kinds;
-use crate::kinds::Kind;
-use crate::kinds::kind_of;
+ghost use Rattle.ledger.specs.Entries.{byteAt, wordAt, entryOf, termsOf, pricesOf, processOnly, wishes, companySells};
 use tariff::amounts::Dth;
 use tariff::bill::Prices;
-use tariff::bounds::MOST_MCF;
-use tariff::bounds::MOST_MDQ;
-use tariff::bounds::MOST_UNITS;
 use tariff::dates::Date;
 use tariff::months::Month;
 use tariff::terms::Terms;
@@ -90,13 +83,6 @@ pub fn decode(bytes: &[u8]) -> Entry
     }
 }
 
-// Units from 1 to 10^9.
-fn some_units(w: u64) -> bool
-    ensures { λ r. ⌜ r ≡ someUnits w ⌝ }
-{
-    (1 <= w) & (w <= MOST_UNITS)
-}
-
 impl Entry {
     pub fn terms(self) -> Terms
         ensures { λ r. ⌜ r ≡ termsOf self ⌝ }
@@ -138,66 +124,5 @@ impl Entry {
         ensures { λ r. ⌜ r ≡ companySells self ⌝ }
     {
         self.flags == 0
-    }
-
-    fn account_too_high(self, k: Kind) -> bool
-        ensures { λ r. ⌜ r ≡ accountTooHigh k self ⌝ }
-    {
-        ((1 <= k.accounts) & (16 <= self.a)) | ((2 <= k.accounts) & (16 <= self.b))
-    }
-
-    fn unused_set(self, k: Kind) -> bool
-        ensures { λ r. ⌜ r ≡ unusedSet k self ⌝ }
-    {
-        let a = (k.accounts < 1) & !(self.a == 0);
-        let b = (k.accounts < 2) & !(self.b == 0);
-        let flags = k.flags < self.flags;
-        let w1 = (k.words < 1) & !(self.w1 == 0);
-        let w2 = (k.words < 2) & !(self.w2 == 0);
-        let w3 = (k.words < 3) & !(self.w3 == 0);
-        let w4 = (k.words < 4) & !(self.w4 == 0);
-        let w5 = (k.words < 5) & !(self.w5 == 0);
-        let w6 = (k.words < 6) & !(self.w6 == 0);
-        a | b | flags | w1 | w2 | w3 | w4 | w5 | w6
-    }
-
-    fn words_in_range(self) -> bool
-        ensures { λ r. ⌜ r ≡ wordsInRange self ⌝ }
-    {
-        let kind = self.kind;
-        match kind {
-            kinds::TERMS => self.terms().in_range(),
-            kinds::ENROL => (self.w1 <= MOST_MDQ) & (self.w2 <= MOST_UNITS),
-            kinds::DELIVER => (self.w1 <= MOST_UNITS) & (self.w2 <= MOST_UNITS),
-            kinds::TRANSFER => some_units(self.w1) & some_units(self.w2),
-            kinds::TRADE => some_units(self.w1),
-            kinds::MEASURE => self.w1 <= MOST_MDQ,
-            kinds::USAGE => self.w1 <= MOST_MCF,
-            kinds::CLOSE_DAY => true,
-            kinds::CLOSE_MONTH => self.prices().in_range(),
-            _ => false,
-        }
-    }
-
-    fn wrong_transfer(self) -> bool
-        ensures { λ r. ⌜ r ≡ wrongTransfer self ⌝ }
-    {
-        (self.kind == kinds::TRANSFER) & ((self.a == self.b) | !(self.w1 == self.w2))
-    }
-
-    // The number of the first of 2 to 7 that applies, or 0.
-    pub fn number(self) -> u64
-        ensures { λ r. ⌜ r ≡ entryNumber self ⌝ }
-    {
-        let date = self.date;
-        let k = kind_of(self.kind);
-        let no_kind = !(k.since <= 1);
-        let no_date = !date.real();
-        let too_high = self.account_too_high(k);
-        let set = self.unused_set(k);
-        let outside = !self.words_in_range();
-        let wrong = self.wrong_transfer();
-        let late = refuse(5, set, refuse(6, outside, refuse(7, wrong, 0)));
-        refuse(2, no_kind, refuse(3, no_date, refuse(4, too_high, late)))
     }
 }

@@ -3,9 +3,11 @@ mod answers;
 mod changes;
 mod checks;
 mod closing;
+mod closings;
 mod deliver;
 mod enrol;
 mod entries;
+mod forms;
 mod gas;
 mod kinds;
 mod measure;
@@ -28,13 +30,14 @@ pub use state::Ledger;
 pub use state::ThisMonth;
 pub use state::Today;
 ghost use mathlib.Core.Path.{_≡_};
-ghost use Rattle.ledger.specs.Entries.{formNumber};
+ghost use Rattle.ledger.specs.Forms.{formNumber};
 ghost use Rattle.ledger.specs.State.{fresh};
 ghost use Rattle.ledger.specs.Posting.{posted};
 ghost use Rattle.ledger.specs.Panel.{bankOf, panelOf};
 ghost use Rattle.ledger.specs.MarkedCases.{MarkedCases};
 use crate::answers::answered;
 use crate::entries::decode;
+use crate::forms::number_of;
 use crate::kinds::kind_of;
 use crate::panels::open_bank;
 use crate::panels::open_banks;
@@ -85,7 +88,7 @@ pub fn entry_number(entry: &[u8]) -> u64
     if entry.len() != 32 {
         return 1;
     }
-    decode(entry).number()
+    number_of(decode(entry))
 }
 
 // Any bytes, to any ledger.

@@ -3,7 +3,7 @@ ghost use mathlib.Core.Path.{_≡_};
 ghost use mathlib.Core.Bool.{true};
 ghost use Rattle.tariff.specs.Dates.{real};
 ghost use Rattle.tariff.specs.Terms.{termsInRange};
-ghost use Rattle.ledger.specs.Entries.{fieldNumber};
+ghost use Rattle.ledger.specs.Forms.{fieldNumber};
 ghost use Rattle.ledger.specs.Ranges.{accountInRange, inRange};
 ghost use Rattle.ledger.specs.Days.{wrongDay};
 ghost use Rattle.ledger.specs.Posting.{admission, postSeveral, changeOf};
@@ -12,10 +12,11 @@ use crate::answers::Posted;
 use crate::answers::answered;
 use crate::changes::Change;
 use crate::checks::refuse;
-use crate::closing::post_closing;
+use crate::closings::post_closing;
 use crate::deliver::delivery;
 use crate::enrol::enrolment;
 use crate::entries::Entry;
+use crate::forms::number_of;
 use crate::kinds;
 use crate::measure::measurement;
 use crate::state::Account;
@@ -49,7 +50,7 @@ pub fn admission(fits: bool, begun: bool, touched: bool, today: Date, e: Entry) 
     ensures { λ r. ⌜ ((l : declared.Ledger) → inRange l ≡ fits → l .begun ≡ begun → l .touched ≡ touched → l .date ≡ today → r ≡ admission l e) ⌝ }
 {
     let date = e.date;
-    let n = e.number();
+    let n = number_of(e);
     if n != 0 {
         return n;
     }

@@ -4,7 +4,7 @@ ghost use mathlib.Core.Bool.{true};
 ghost use Prim.Native.Nat.{_≤_};
 ghost use Rattle.ledger.specs.Kinds.{TRADE};
 ghost use Rattle.ledger.specs.Ranges.{accountInRange};
-ghost use Rattle.ledger.specs.Entries.{fieldNumber};
+ghost use Rattle.ledger.specs.Forms.{fieldNumber};
 ghost use Rattle.ledger.specs.Trade.{booked, traded, trade};
 ghost use Rattle.tariff.specs.Bounds.{mostUnits};
 use crate::changes::Change;

@@ -7,7 +7,7 @@ ghost use lib.Dec.{ltb};
 ghost use lib.ListN.{length, drop};
 ghost use mathlib.Core.List.{_++_};
 ghost use Rattle.ledger.specs.State.{fresh};
-ghost use Rattle.ledger.specs.Entries.{formNumber};
+ghost use Rattle.ledger.specs.Forms.{formNumber};
 ghost use Rattle.ledger.specs.Posting.{posted};
 ghost use Rattle.ledger.specs.Panel.{panelOf};
 ghost use Rattle.archive.specs.Writing.{written, outputAfter};

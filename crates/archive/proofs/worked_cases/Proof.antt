@@ -14,7 +14,8 @@ use Rattle.tariff.specs.Steps.{stepOf, firstStep}
 use Rattle.tariff.specs.Bill.{pricesInRange}
 use Rattle.ledger.specs.Checks.{verdict}
 use Rattle.ledger.specs.Kinds.{lookup, kindOf}
-use Rattle.ledger.specs.Entries.{byteAt, halfAt, wordAt, entryOf, termsOf, pricesOf, processOnly, wishes, accountTooHigh, unusedSet, wordsInRange, wrongTransfer, fieldChecks, entryChecks, entryNumber, formNumber}
+use Rattle.ledger.specs.Entries.{byteAt, halfAt, wordAt, entryOf, termsOf, pricesOf, processOnly, wishes}
+use Rattle.ledger.specs.Forms.{accountTooHigh, unusedSet, wordsInRange, wrongTransfer, fieldChecks, entryChecks, entryNumber, formNumber}
 use Rattle.ledger.specs.State.{noTotals, noMonth, noToday, nobody, fresh, accountAt, asOpen, withBank, withMeasure, withCapacity, withAccount}
 use Rattle.ledger.specs.Ranges.{totalsInRange, stepInRange, accountInRange, everyAccount, inRange}
 use Rattle.ledger.specs.Answers.{quiet, plain, refused, settle}

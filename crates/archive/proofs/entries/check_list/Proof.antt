@@ -6,7 +6,7 @@ use Prim.Native.Nat.{ℕ, _+_, _*_, _-_, _/_, _<_, _≤_}
 use mathlib.Core.List.{List, map}
 use mathlib.Core.Path.{_≡_, refl}
 use lib.ListN.{length, drop, take}
-use Rattle.ledger.specs.Entries.{formNumber}
+use Rattle.ledger.specs.Forms.{formNumber}
 use Rattle.archive.specs.Writing.{listChecked}
 use Rattle.archive.specs.Entries.{entriesOf, firstEntries, finding, firstRefusal}
 use Rattle.archive.proofs.EntryLists.{entries-next, entries-none}

@@ -9,7 +9,7 @@ use Rattle.ledger.proofs.RightEntries.{is-real}
 use Rattle.tariff.specs.Dates.{real, sameDate}
 use Rattle.tariff.specs.declared.dates.Date.{Date}
 use Rattle.ledger.specs.Checks.{verdict}
-use Rattle.ledger.specs.Entries.{entryNumber}
+use Rattle.ledger.specs.Forms.{entryNumber}
 use Rattle.ledger.specs.Ranges.{inRange}
 use Rattle.ledger.specs.Days.{wrongDay}
 use Rattle.ledger.specs.Posting.{admission, standingChecks}

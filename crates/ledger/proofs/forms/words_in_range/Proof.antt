@@ -2,9 +2,9 @@
 use borrow.Author.Needs.{needs}
 use Rattle.ledger.proofs.KindCases.{at, absent}
 use Rattle.ledger.specs.Kinds.{lookup}
-use Rattle.ledger.specs.Entries.{wordsInRange}
-use Rattle.ledger.proofs.entries.Entry.words_in_range.Statement.{statement}
-use Rattle.ledger.proofs.entries.Entry.words_in_range.Tie as tie
+use Rattle.ledger.specs.Forms.{wordsInRange}
+use Rattle.ledger.proofs.forms.words_in_range.Statement.{statement}
+use Rattle.ledger.proofs.forms.words_in_range.Tie as tie
 
 pub words-in-range-spec : {M : Type 1} → statement M
 unfolding wordsInRange lookup

@@ -11,7 +11,8 @@ use Rattle.ledger.proofs.Bounded.{account-ranged, begun-ranged}
 use Rattle.ledger.proofs.Lists.{every-end, every-next, every-pass, filled, filled-end, filled-kept, filled-next, length-mapped, withAccounts}
 use Rattle.ledger.proofs.RightEntries.{prices-fit}
 use Rattle.ledger.specs.Answers.{quiet}
-use Rattle.ledger.specs.Closing.{afterClosing, closed, closingOf, notOpen, ready, reportOf, staysInRange}
+use Rattle.ledger.specs.Closing.{afterClosing, closingOf, leftAlone, ready, reportOf, staysInRange}
+use Rattle.ledger.specs.Closings.{closed}
 use Rattle.ledger.specs.Ranges.{accountInRange, everyAccount}
 use Rattle.ledger.specs.State.{accountAt, noMonth, noToday, noTotals, nobody}
 use Rattle.tariff.specs.Dates.{lastOfMonth, onMeasurementDay, real}
@@ -22,8 +23,8 @@ use Rattle.ledger.specs.declared.state.Ledger.{Ledger}
 use Rattle.ledger.specs.declared.state.Account.{Account}
 use Rattle.ledger.specs.declared.entries.Entry.{Entry}
 use Rattle.ledger.specs.declared.closing.Closed.{Closed}
-use Rattle.ledger.proofs.closing.close_all.Statement.{statement}
-use Rattle.ledger.proofs.closing.close_all.Tie as tie
+use Rattle.ledger.proofs.closings.close_all.Statement.{statement}
+use Rattle.ledger.proofs.closings.close_all.Tie as tie
 
 -- ---- what the loop carries, with i accounts behind it
 
@@ -77,17 +78,17 @@ module _ (l : Ledger) (e : Entry) (i : ℕ) (n : length (l .accounts) ≡ 16) (h
 
   -- one that is not open stays as it is, lacks nothing, and has nothing to report
   module _ (o : accountAt l i .opened ≡ false) where
-    shut : closingOf (l .terms) e (accountAt l i) ≡ notOpen (accountAt l i)
+    shut : closingOf (l .terms) e (accountAt l i) ≡ leftAlone (accountAt l i)
     unfolding closingOf
     shut = rw o
 
     shut-stored : (next r : Ledger) → next ≡ accountsTo l e i → r ≡ next → r ≡ accountsTo l e (i + 1)
-    unfolding accountAt afterClosing notOpen
+    unfolding accountAt afterClosing leftAlone
     shut-stored next r v q =
         q ∙ v ∙ ap (withAccounts l) (filled-kept (afterClosing (l .terms) e) (l .accounts) (l .accounts) i nobody nobody refl (omega arith) (ap (λ (c : Closed). c .account) shut))
 
     shut-reported : (reports r : List Report) → reports ≡ reportsTo l e i → r ≡ reports → r ≡ reportsTo l e (i + 1)
-    unfolding accountAt reportOf notOpen
+    unfolding accountAt reportOf leftAlone
     shut-reported reports r v q =
         q
         ∙ v
@@ -98,7 +99,7 @@ module _ (l : Ledger) (e : Entry) (i : ℕ) (n : length (l .accounts) ≡ 16) (h
     shut-complete complete r v q = cc (every-pass (Ready e) (l .accounts) i nobody complete (omega arith) (rw o))
 
     shut-stays : (fits r : Bool) → accountInRange (accountAt l i) ≡ true → Agrees l i (staysInRange (l .terms) e) fits → r ≡ fits → Agrees l (i + 1) (staysInRange (l .terms) e) r
-    unfolding accountAt staysInRange notOpen
+    unfolding accountAt staysInRange leftAlone
     shut-stays fits r x v q =
         cc (every-pass (staysInRange (l .terms) e) (l .accounts) i nobody fits (omega arith) (ap (λ (c : Closed). accountInRange (c .day) && accountInRange (c .account)) shut ∙ rw x))
 

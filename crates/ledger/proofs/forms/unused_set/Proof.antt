@@ -1,8 +1,8 @@
 -- What a kind uses is a row of the table; the code joins the same nine tests as the rule.
 use borrow.Author.Needs.{needs}
-use Rattle.ledger.specs.Entries.{unusedSet}
-use Rattle.ledger.proofs.entries.Entry.unused_set.Statement.{statement}
-use Rattle.ledger.proofs.entries.Entry.unused_set.Tie as tie
+use Rattle.ledger.specs.Forms.{unusedSet}
+use Rattle.ledger.proofs.forms.unused_set.Statement.{statement}
+use Rattle.ledger.proofs.forms.unused_set.Tie as tie
 
 returns : tie.Need-returns
 unfolding unusedSet

@@ -1,8 +1,8 @@
 -- Two comparisons, the same in the code and the rule.
 use borrow.Author.Needs.{needs}
-use Rattle.ledger.specs.Entries.{someUnits}
-use Rattle.ledger.proofs.entries.some_units.Statement.{statement}
-use Rattle.ledger.proofs.entries.some_units.Tie as tie
+use Rattle.ledger.specs.Forms.{someUnits}
+use Rattle.ledger.proofs.forms.some_units.Statement.{statement}
+use Rattle.ledger.proofs.forms.some_units.Tie as tie
 
 pub some-units-spec : {M : Type 1} → statement M
 unfolding someUnits

@@ -1,8 +1,8 @@
 -- Each account is tested where the kind names it, as the rule has it.
 use borrow.Author.Needs.{needs}
-use Rattle.ledger.specs.Entries.{accountTooHigh}
-use Rattle.ledger.proofs.entries.Entry.account_too_high.Statement.{statement}
-use Rattle.ledger.proofs.entries.Entry.account_too_high.Tie as tie
+use Rattle.ledger.specs.Forms.{accountTooHigh}
+use Rattle.ledger.proofs.forms.account_too_high.Statement.{statement}
+use Rattle.ledger.proofs.forms.account_too_high.Tie as tie
 
 returns : tie.Need-returns
 unfolding accountTooHigh
