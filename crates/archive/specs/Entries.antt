@@ -1,12 +1,8 @@
 -- A list of entries in bytes, and the first entry of it that is refused.
-use Prim.Native.Nat.{ℕ, zero, suc, _+_, _/_}
-use mathlib.Core.Bool.{Bool, cond}
-use mathlib.Core.List.{List, [], _∷_}
-use lib.Dec.{eqb}
-use lib.ListN.{length, take, drop}
+use Rattle.tariff.specs.Vocabulary.{ℕ, zero, suc, _+_, _/_, Bool, cond, eqb, List, [], _∷_, length, take, drop}
+use Rattle.archive.specs.Structs.{Checked}
 use Rattle.ledger.specs.Kinds.{CLOSE-MONTH}
 use Rattle.ledger.specs.Entries.{entryOf}
-use Rattle.archive.specs.declared.entries.Checked.{Checked}
 
 -- R68: the first n entries.
 unfoldable pub firstEntries : ℕ → List ℕ → List (List ℕ)

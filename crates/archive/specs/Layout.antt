@@ -1,8 +1,5 @@
 -- The bytes of an archive: a head, a directory of sections, and the sections.
-use Prim.Native.Nat.{ℕ, _+_, _*_}
-use mathlib.Core.Bool.{cond}
-use mathlib.Core.List.{List, [], _∷_, _++_}
-use lib.ListN.{length}
+use Rattle.tariff.specs.Vocabulary.{ℕ, _+_, _*_, cond, List, [], _∷_, _++_, length}
 use Rattle.archive.specs.Words.{bytesOf}
 use Rattle.archive.specs.Entries.{entriesOf, closesMonth}
 

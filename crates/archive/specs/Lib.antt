@@ -1,4 +1,5 @@
 -- The archive: its bytes, its writer and its reader, what its replay leaves, and that both directions fit each other.
+pub mod Structs
 pub mod Words
 pub mod Entries
 pub mod Layout

@@ -1,15 +1,10 @@
 -- The reader: it checks a whole file before it gives any part of it.
-use Prim.Native.Nat.{ℕ, zero, suc, _+_, _*_, _%_}
-use mathlib.Core.Bool.{Bool, cond, not, _&&_, _||_}
-use mathlib.Core.List.{List, [], _∷_, _++_, map}
-use lib.Dec.{eqb, ltb}
-use lib.ListN.{length, getD, take, drop}
+use Rattle.tariff.specs.Vocabulary.{ℕ, zero, suc, _+_, _*_, _%_, Bool, cond, not, _&&_, _||_, eqb, ltb, List, [], _∷_, _++_, map, length, getD, take, drop}
+use Rattle.archive.specs.Structs.{Checked, Place}
 use Rattle.ledger.specs.Forms.{formNumber}
 use Rattle.ledger.specs.Entries.{halfAt, wordAt}
 use Rattle.archive.specs.Entries.{entriesOf, closesMonth, finding, firstRefusal}
 use Rattle.archive.specs.Layout.{mostBytes, mostSections, openingBytes, bodyAt}
-use Rattle.archive.specs.declared.entries.Checked.{Checked}
-use Rattle.archive.specs.declared.reading.Place.{Place}
 
 -- ---- 8: the head
 

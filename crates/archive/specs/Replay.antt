@@ -1,17 +1,12 @@
 -- An archive's entries posted in order to a fresh ledger; those that it refuses are in the archive too, and are refused again.
-use Prim.Native.Nat.{ℕ, _+_, _<_}
-use mathlib.Core.Path.{_≡_}
-use mathlib.Core.Bool.{Bool, cond}
-use mathlib.Core.List.{List, [], _∷_}
-use lib.Dec.{eqb}
+use Rattle.tariff.specs.Vocabulary.{ℕ, _+_, _<_, Bool, cond, eqb, List, [], _∷_, _≡_}
+use Rattle.archive.specs.Structs.{Figures, Replay}
 use Rattle.ledger.specs.State.{fresh}
 use Rattle.ledger.specs.Panel.{bankOf, panelOf}
 use Rattle.ledger.specs.Running.{Line, history, run, isAccepted}
 use Rattle.history.specs.History.{accepted, start, total, billed, violated, bankSum, figureSum, owedOf, daysOf, remaining, postingsOf}
 use Rattle.archive.specs.Entries.{entriesOf}
 use Rattle.archive.specs.Reading.{checked, listOf}
-use Rattle.archive.specs.declared.replaying.Replay.{Replay}
-use Rattle.archive.specs.declared.replaying.Figures.{Figures}
 
 -- R77: the list in an archive, an empty one if the archive is refused.
 unfoldable pub listIn : List ℕ → List ℕ

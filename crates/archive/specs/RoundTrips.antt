@@ -1,8 +1,5 @@
 -- There is one archive for each list, and one list in each archive.
-use Prim.Native.Nat.{ℕ, _<_, _≤_}
-use mathlib.Core.Path.{_≡_}
-use mathlib.Core.List.{List, []}
-use lib.ListN.{length, getD}
+use Rattle.tariff.specs.Vocabulary.{ℕ, _<_, _≤_, List, [], length, getD, _≡_}
 use Rattle.archive.specs.Entries.{entriesOf, finding}
 use Rattle.archive.specs.Layout.{mostBytes, sectionsOf, concatenated, archiveOf}
 use Rattle.archive.specs.Writing.{written}

@@ -1,6 +1,5 @@
 -- Numbers as bytes.
-use Prim.Native.Nat.{ℕ, zero, suc, _/_, _%_}
-use mathlib.Core.List.{List, [], _∷_}
+use Rattle.tariff.specs.Vocabulary.{ℕ, zero, suc, _/_, _%_, List, [], _∷_}
 
 -- R68: a number in so many bytes, the lowest first; the ledger's halfAt and wordAt read them back.
 unfoldable pub bytesOf : ℕ → ℕ → List ℕ

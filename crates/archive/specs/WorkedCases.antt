@@ -1,9 +1,5 @@
 -- A short list and archives with one fault each: no writer or reader that refuses everything, or has another format, meets these.
-use Prim.Native.Nat.{ℕ, zero, suc}
-use mathlib.Core.Path.{_≡_}
-use mathlib.Core.List.{List, [], _∷_, _++_}
-use lib.IntN.{pos}
-use lib.ListN.{replicate}
+use Rattle.tariff.specs.Vocabulary.{ℕ, zero, suc, pos, List, [], _∷_, _++_, replicate, _≡_}
 use Rattle.ledger.specs.MarkedCases.{terms, enrol, closeMonth}
 use Rattle.archive.specs.Entries.{finding}
 use Rattle.archive.specs.Writing.{unwritten, written, outputAfter}

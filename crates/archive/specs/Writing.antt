@@ -1,14 +1,9 @@
 -- The writer: it checks list and room before it writes a byte.
-use Prim.Native.Nat.{ℕ, _%_}
-use mathlib.Core.Bool.{Bool, cond, _||_}
-use mathlib.Core.List.{List, _++_, map}
-use lib.Dec.{eqb, ltb}
-use lib.ListN.{length, drop}
+use Rattle.tariff.specs.Vocabulary.{ℕ, _%_, Bool, cond, _||_, eqb, ltb, List, _++_, map, length, drop}
+use Rattle.archive.specs.Structs.{Checked, Written}
 use Rattle.ledger.specs.Forms.{formNumber}
 use Rattle.archive.specs.Entries.{entriesOf, firstRefusal}
 use Rattle.archive.specs.Layout.{mostBytes, mostSections, sectionsOf, archiveOf}
-use Rattle.archive.specs.declared.entries.Checked.{Checked}
-use Rattle.archive.specs.declared.writing.Written.{Written}
 
 -- R75: the first entry that gets 2 to 7.
 unfoldable pub listChecked : List ℕ → Checked

@@ -1,18 +1,11 @@
 -- The year sheet: every account's bank at the end of each month of a gas year.
-use Prim.Native.Nat.{ℕ, zero, suc, _+_}
-use mathlib.Core.Bool.{Bool, cond, _&&_}
-use mathlib.Core.List.{List, [], _∷_}
-use lib.Dec.{eqb, leb}
-use lib.IntN.{pos}
-use lib.ListN.{getD}
+use Rattle.tariff.specs.Vocabulary.{ℕ, zero, suc, _+_, pos, Bool, cond, _&&_, eqb, leb, List, [], _∷_, getD}
+use Rattle.archive.specs.Structs.{Date, Ledger, Units}
 use Rattle.tariff.specs.Months.{gasMonth}
-use Rattle.tariff.specs.declared.amounts.Units.{Units}
-use Rattle.tariff.specs.declared.dates.Date.{Date}
 use Rattle.ledger.specs.Entries.{entryOf}
 use Rattle.ledger.specs.State.{fresh}
 use Rattle.ledger.specs.Posting.{posted}
 use Rattle.ledger.specs.Panel.{bankOf}
-use Rattle.ledger.specs.declared.state.Ledger.{Ledger}
 use Rattle.archive.specs.Entries.{closesMonth}
 use Rattle.archive.specs.Replay.{entriesIn}
 

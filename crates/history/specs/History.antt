@@ -1,12 +1,9 @@
 -- What anyone can add up from the posted bytes and the answers to them, and that the last ledger holds just that.
 -- Any list to a fresh ledger will do, with refused postings and garbage in it; no ledger but the last is looked into.
-use Prim.Native.Nat.{ℕ, zero, suc, _<_}
-use mathlib.Core.Path.{_≡_}
-use mathlib.Core.Bool.{Bool, cond, not, _&&_, _||_}
-use mathlib.Core.List.{List, [], _∷_}
-use lib.Dec.{eqb}
-use lib.IntN.{ℤ, pos, _+ℤ_, _-ℤ_}
-use lib.ListN.{getD}
+use Rattle.tariff.specs.Vocabulary.{ℕ, zero, suc, _<_, ℤ, pos, _+ℤ_, _-ℤ_, Bool, cond, not, _&&_, _||_, eqb, List, [], _∷_, getD, _≡_}
+use Rattle.ledger.specs.declared.entries.Entry.{Entry}
+use Rattle.ledger.specs.declared.state.Ledger.{Ledger}
+use Rattle.ledger.specs.declared.answers.Report.{Report}
 use Rattle.tariff.specs.Amounts.{inward, outward}
 use Rattle.ledger.specs.Kinds.{TERMS, ENROL, DELIVER, TRANSFER, TRADE, CLOSE-DAY, CLOSE-MONTH}
 use Rattle.ledger.specs.Entries.{entryOf, companySells}
@@ -15,9 +12,6 @@ use Rattle.ledger.specs.Answers.{quiet}
 use Rattle.ledger.specs.Deliver.{amountUnder}
 use Rattle.ledger.specs.Panel.{bankOf, panelOf}
 use Rattle.ledger.specs.Running.{Line, history, run, isAccepted}
-use Rattle.ledger.specs.declared.state.Ledger.{Ledger}
-use Rattle.ledger.specs.declared.entries.Entry.{Entry}
-use Rattle.ledger.specs.declared.answers.Report.{Report}
 
 -- R61: only accepted postings count.
 unfoldable pub accepted : List Line → List Line
@@ -157,8 +151,7 @@ daysOf l i = cond (accountAt l i .opened) (pos (accountAt l i .«violation_days�
 
 -- ---- striking refused postings
 
--- R65: the lines that are left if a refused one is struck wherever a mark says so; a mark on an accepted one, or past the end, strikes
--- nothing.
+-- R65: the lines left if a refused one is struck where a mark says so; a mark on an accepted one, or past the end, strikes nothing.
 unfoldable pub remaining : List Bool → List Line → List Line
 remaining [] xs = xs
 remaining (m ∷ ms) [] = []

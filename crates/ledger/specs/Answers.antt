@@ -1,17 +1,14 @@
 -- What a posting answers: one number, and a report for each of the sixteen accounts.
-use Prim.Native.Nat.{ℕ}
-use mathlib.Core.Bool.{cond}
-use lib.Dec.{eqb}
-use lib.IntN.{pos}
-use lib.ListN.{replicate}
-use Rattle.ledger.specs.declared.state.Ledger.{Ledger}
-use Rattle.ledger.specs.declared.answers.Report.{Report}
-use Rattle.ledger.specs.declared.answers.Answer.{Answer}
-use Rattle.ledger.specs.declared.answers.Posted.{Posted}
+use Rattle.tariff.specs.Vocabulary.{ℕ, pos, cond, eqb, replicate}
+use Rattle.ledger.specs.Structs.{Answer, Ledger, Mills, Posted, Quantity, Report, Units}
+
+-- R21: what a closing reports of an account.
+abbrev pub report : ℕ → Units → Quantity → Mills → Report
+report mask cash forfeit bill = record { mask = mask; cash = cash; forfeit = forfeit; bill = bill }
 
 -- R21: the report of an account of which there is nothing to tell.
 unfoldable pub quiet : Report
-quiet = record { mask = 0; cash = record { 0 = pos 0 }; forfeit = record { 0 = 0 }; bill = record { 0 = pos 0 } }
+quiet = report 0 (record { 0 = pos 0 }) (record { 0 = 0 }) (record { 0 = pos 0 })
 
 -- R21: a number and sixteen empty reports, which is every answer but that of an accepted closing.
 unfoldable pub plain : ℕ → Answer

@@ -1,7 +1,5 @@
 -- Faults are looked for one after the other, and the first that is found gives the number.
-use Prim.Native.Nat.{ℕ}
-use mathlib.Core.Bool.{Bool, cond}
-use mathlib.Core.List.{List, [], _∷_}
+use Rattle.tariff.specs.Vocabulary.{ℕ, Bool, cond, List, [], _∷_}
 
 -- R15: whether a test finds its fault, and the number of that fault.
 abbrev pub Check : Type 0

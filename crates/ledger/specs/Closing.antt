@@ -1,33 +1,16 @@
 -- One account at a closing: violations, cash and, as a month ends, the bill.
-use Prim.Native.Nat.{ℕ, _+_}
-use mathlib.Core.Bool.{Bool, cond, not, _&&_, _||_}
-use mathlib.Core.List.{[], _∷_}
-use lib.Dec.{eqb}
-use lib.IntN.{pos}
+use Rattle.tariff.specs.Vocabulary.{ℕ, _+_, pos, Bool, cond, not, _&&_, _||_, eqb, [], _∷_}
+use Rattle.ledger.specs.Structs.{Account, Capacity, Closed, Date, Entry, Mills, Prices, Quantity, Report, Step, Terms, Totals, Units}
 use Rattle.tariff.specs.Amounts.{sum, less, inward, outward, together, added}
 use Rattle.tariff.specs.Terms.{capacityOf}
 use Rattle.tariff.specs.Steps.{settledStep, falls}
 use Rattle.tariff.specs.Closing.{withdrawalLimit, breaksV3, breaksV4, breaksV5, breaksV6, breaksV7, breaksV8, cashOf, endsExcuse, carryOf, forfeitOf, maskOf}
 use Rattle.tariff.specs.Bill.{billOf}
-use Rattle.tariff.specs.declared.amounts.Mills.{Mills}
-use Rattle.tariff.specs.declared.amounts.Quantity.{Quantity}
-use Rattle.tariff.specs.declared.amounts.Units.{Units}
-use Rattle.tariff.specs.declared.bill.Prices.{Prices}
-use Rattle.tariff.specs.declared.bill.Totals.{Totals}
-use Rattle.tariff.specs.declared.dates.Date.{Date}
-use Rattle.tariff.specs.declared.terms.Capacity.{Capacity}
-use Rattle.tariff.specs.declared.steps.Step.{Step}
-use Rattle.tariff.specs.declared.terms.Terms.{Terms}
 use Rattle.ledger.specs.Kinds as kinds
-use Rattle.ledger.specs.Kinds.{lookup}
 use Rattle.ledger.specs.Entries.{pricesOf}
-use Rattle.ledger.specs.State.{noMonth, noToday, withBank, withCapacity, withCarry, withDays, withExcuse, withMeasure, withMonth, withToday, withTotals}
+use Rattle.ledger.specs.State.{totals, noMonth, noToday, withBank, withCapacity, withCarry, withDays, withExcuse, withMeasure, withMonth, withToday, withTotals}
 use Rattle.ledger.specs.Ranges.{accountInRange}
-use Rattle.ledger.specs.Answers.{quiet}
-use Rattle.ledger.specs.declared.state.Account.{Account}
-use Rattle.ledger.specs.declared.entries.Entry.{Entry}
-use Rattle.ledger.specs.declared.answers.Report.{Report}
-use Rattle.ledger.specs.declared.closing.Closed.{Closed}
+use Rattle.ledger.specs.Answers.{quiet, report}
 
 -- ---- the day's part (R44, stages 1 to 5); d is the day that is closed
 
@@ -52,15 +35,7 @@ cashAt d a = cashOf (d .month) (a .excused) (a .capacity .bcq) (a .bank)
 
 -- R52: cash-ins and cash-outs are summed apart, as they are billed at different prices (R54); net does not know of them.
 unfoldable pub withCash : Totals → Units → Totals
-withCash m cash =
-    record {
-      net = m .net;
-      sales = m .sales;
-      purchases = m .purchases;
-      «cash_ins» = together (m .«cash_ins») (inward cash);
-      «cash_outs» = together (m .«cash_outs») (outward cash);
-      usage = m .usage;
-    }
+withCash m cash = totals (m .net) (m .sales) (m .purchases) (together (m .«cash_ins») (inward cash)) (together (m .«cash_outs») (outward cash)) (m .usage)
 
 -- R53: the excuse lasts until a closing finds that the bank, after cash, fits the month's maximum.
 unfoldable pub excusedStill : Date → Account → Units → Bool
@@ -113,17 +88,7 @@ afterMonth d t p a = monthEnd d (limitOf d a) (settledStep (a .step)) (nextCapac
 -- R59: CLOSE DAY forfeits and bills nothing.
 unfoldable pub dayClosing : Date → Account → Closed
 dayClosing d a =
-    record {
-      day = afterDay d a;
-      account = afterDay d a;
-      report =
-          record {
-            mask = violationsOf d a;
-            cash = cashAt d a;
-            forfeit = record { 0 = 0 };
-            bill = record { 0 = pos 0 };
-          };
-    }
+    record { day = afterDay d a; account = afterDay d a; report = report (violationsOf d a) (cashAt d a) (record { 0 = 0 }) (record { 0 = pos 0 }) }
 
 -- R59: CLOSE MONTH reports the day's mask and cash, then forfeit and bill.
 unfoldable pub monthClosing : Date → Terms → Prices → Account → Closed
@@ -131,13 +96,7 @@ monthClosing d t p a =
     record {
       day = afterDay d a;
       account = afterMonth d t p (afterDay d a);
-      report =
-          record {
-            mask = violationsOf d a;
-            cash = cashAt d a;
-            forfeit = forfeitAt d t (afterDay d a);
-            bill = billAt t p (afterDay d a);
-          };
+      report = report (violationsOf d a) (cashAt d a) (forfeitAt d t (afterDay d a)) (billAt t p (afterDay d a));
     }
 
 -- R20: an account that no closing touches stays exactly as it is, and zeros are reported of it.
@@ -148,7 +107,7 @@ leftAlone a = record { day = a; account = a; report = quiet }
 unfoldable pub closingOf : Terms → Entry → Account → Closed
 closingOf t e a =
     cond (a .opened)
-    (lookup (e .kind)
+    (kinds.lookup (e .kind)
     ((kinds.CLOSE-DAY, dayClosing (e .date) a)
     ∷ (kinds.CLOSE-MONTH, monthClosing (e .date) t (pricesOf e) a)
     ∷ [])

@@ -1,15 +1,12 @@
 -- A closing: each open account by itself, all of them or none; then it is the next day.
-use mathlib.Core.Bool.{false, cond, not}
-use mathlib.Core.List.{List, [], _∷_, map}
-use lib.Dec.{eqb}
+use Rattle.tariff.specs.Vocabulary.{false, cond, not, eqb, List, [], _∷_, map}
+use Rattle.ledger.specs.Structs.{Entry, Ledger, Posted}
 use Rattle.tariff.specs.Dates.{lastOfMonth, dayAfter, onMeasurementDay}
 use Rattle.ledger.specs.Checks.{Check, verdict}
+use Rattle.ledger.specs.State.{ledger}
 use Rattle.ledger.specs.Ranges.{everyAccount}
 use Rattle.ledger.specs.Answers.{refused}
 use Rattle.ledger.specs.Closing.{ready, staysInRange, afterClosing, reportOf}
-use Rattle.ledger.specs.declared.state.Ledger.{Ledger}
-use Rattle.ledger.specs.declared.entries.Entry.{Entry}
-use Rattle.ledger.specs.declared.answers.Posted.{Posted}
 
 -- R44: 27, then 29. The right closing for the day, 23, was asked before (R42).
 unfoldable pub closingChecks : Ledger → Entry → List Check
@@ -23,14 +20,7 @@ unfoldable pub closed : Ledger → Entry → Posted
 closed l e =
     record {
       answer = record { number = 0; reports = map (reportOf (l .terms) e) (l .accounts) };
-      ledger =
-          record {
-            begun = l .begun;
-            touched = false;
-            date = dayAfter (e .date);
-            terms = l .terms;
-            accounts = map (afterClosing (l .terms) e) (l .accounts);
-          };
+      ledger = ledger (l .begun) false (dayAfter (e .date)) (l .terms) (map (afterClosing (l .terms) e) (l .accounts));
     }
 
 -- R58: a single account can refuse the closing, and then none is closed.

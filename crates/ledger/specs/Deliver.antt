@@ -1,21 +1,11 @@
 -- DELIVER: what was brought beyond the need goes into the bank, what was lacking comes out of it.
-use Prim.Native.Nat.{ℕ}
-use mathlib.Core.Bool.{true, not}
-use mathlib.Core.List.{List, [], _∷_}
+use Rattle.tariff.specs.Vocabulary.{ℕ, true, not, List, [], _∷_}
+use Rattle.ledger.specs.Structs.{Account, Change, Entry, Month, Quantity, Terms, Today, Totals, Units}
 use Rattle.tariff.specs.Amounts.{sum}
 use Rattle.tariff.specs.Delivery.{retained, breaksV1, shareOf, breaksV2}
-use Rattle.tariff.specs.declared.amounts.Quantity.{Quantity}
-use Rattle.tariff.specs.declared.amounts.Units.{Units}
-use Rattle.tariff.specs.declared.bill.Totals.{Totals}
-use Rattle.tariff.specs.declared.months.Month.{Month}
-use Rattle.tariff.specs.declared.terms.Terms.{Terms}
 use Rattle.ledger.specs.Checks.{Check, verdict}
-use Rattle.ledger.specs.State.{withBank, withTotals, withToday}
+use Rattle.ledger.specs.State.{totals, withBank, withTotals, withToday}
 use Rattle.ledger.specs.Ranges.{accountInRange}
-use Rattle.ledger.specs.declared.state.Account.{Account}
-use Rattle.ledger.specs.declared.state.Today.{Today}
-use Rattle.ledger.specs.declared.entries.Entry.{Entry}
-use Rattle.ledger.specs.declared.changes.Change.{Change}
 
 -- R31: the amount of an entry under a retainage; the sums over a history ask for it too (R62).
 unfoldable pub amountUnder : ℕ → Entry → Units
@@ -23,15 +13,7 @@ amountUnder retainage e = retained retainage (record { 0 = e .w1 }) (record { 0 
 
 -- R35: net is moved by deliveries alone, since V3, V4 and V5 are about them (R45 to R47).
 unfoldable pub withNet : Totals → Units → Totals
-withNet m net =
-    record {
-      net = net;
-      sales = m .sales;
-      purchases = m .purchases;
-      «cash_ins» = m .«cash_ins»;
-      «cash_outs» = m .«cash_outs»;
-      usage = m .usage;
-    }
+withNet m net = totals net (m .sales) (m .purchases) (m .«cash_ins») (m .«cash_outs») (m .usage)
 
 -- R35: V1 and V2 wait here for the closing. The share goes by the bank as it was before the delivery (R33).
 unfoldable pub deliveredToday : Month → Account → Units → Quantity → Today

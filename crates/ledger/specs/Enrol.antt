@@ -1,20 +1,14 @@
 -- ENROL: a supplier's account begins, with a bank, an MDQ and what follows from it.
-use mathlib.Core.Bool.{not}
-use mathlib.Core.List.{List, [], _∷_}
+use Rattle.tariff.specs.Vocabulary.{not, List, [], _∷_}
+use Rattle.ledger.specs.Structs.{Account, Change, Dth, Entry, Quantity, Terms}
 use Rattle.tariff.specs.Amounts.{amountOf}
 use Rattle.tariff.specs.Terms.{capacityOf}
 use Rattle.tariff.specs.Enrol.{staysOnFbs, openingTooHigh}
 use Rattle.tariff.specs.Steps.{firstStep}
-use Rattle.tariff.specs.declared.amounts.Dth.{Dth}
-use Rattle.tariff.specs.declared.amounts.Quantity.{Quantity}
-use Rattle.tariff.specs.declared.terms.Terms.{Terms}
 use Rattle.ledger.specs.Checks.{Check, verdict}
 use Rattle.ledger.specs.Entries.{processOnly, wishes}
 use Rattle.ledger.specs.State.{asOpen, nobody, withBank, withCapacity, withMeasure}
 use Rattle.ledger.specs.Ranges.{accountInRange}
-use Rattle.ledger.specs.declared.state.Account.{Account}
-use Rattle.ledger.specs.declared.entries.Entry.{Entry}
-use Rattle.ledger.specs.declared.changes.Change.{Change}
 
 -- R30: bank, MDQ, step, MDDQ and BCQ are given; all else starts from nothing, whatever the account held before.
 unfoldable pub newAccount : Terms → Dth → Quantity → Account
@@ -25,8 +19,7 @@ newAccount t mdq opening =
 unfoldable pub enrolled : Terms → Entry → Account
 enrolled t e = newAccount t (record { 0 = e .w1 }) (record { 0 = e .w2 })
 
--- R30: 24 if the account is open, 25 if the supplier stays on FBS (R28), 28 if the opening is too large for the BCQ that the account is about
--- to get (R29), 29.
+-- R30: 24 if the account is open, 25 if the supplier stays on FBS (R28), 28 if the opening is too large for its new BCQ (R29), 29.
 unfoldable pub enrolChecks : Terms → Account → Entry → List Check
 enrolChecks t a e =
     (a .opened, 24)

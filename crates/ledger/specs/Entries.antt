@@ -1,12 +1,7 @@
 -- An entry: its bytes taken apart, and what its words and flags mean.
-use Prim.Native.Nat.{ℕ, _+_, _*_, _%_}
-use mathlib.Core.Bool.{Bool}
-use mathlib.Core.List.{List}
-use lib.Dec.{eqb, leb}
-use lib.ListN.{getD}
-use Rattle.tariff.specs.declared.terms.Terms.{Terms}
-use Rattle.tariff.specs.declared.bill.Prices.{Prices}
-use Rattle.ledger.specs.declared.entries.Entry.{Entry}
+use Rattle.tariff.specs.Vocabulary.{ℕ, _+_, _*_, _%_, Bool, eqb, leb, List, getD}
+use Rattle.ledger.specs.Structs.{Entry, Prices, Terms}
+use Rattle.tariff.specs.Terms.{termsFrom}
 
 -- ---- the bytes taken apart
 
@@ -28,12 +23,7 @@ entryOf bytes =
       a = byteAt bytes 1;
       b = byteAt bytes 2;
       flags = byteAt bytes 3;
-      date =
-          record {
-            year = halfAt bytes 4;
-            month = record { 0 = byteAt bytes 6 };
-            day = byteAt bytes 7;
-          };
+      date = record { year = halfAt bytes 4; month = record { 0 = byteAt bytes 6 }; day = byteAt bytes 7 };
       w1 = wordAt bytes 8;
       w2 = wordAt bytes 12;
       w3 = wordAt bytes 16;
@@ -46,15 +36,7 @@ entryOf bytes =
 
 -- R13: the six words of TERMS.
 unfoldable pub termsOf : Entry → Terms
-termsOf e =
-    record {
-      «no_notice» = record { 0 = e .w1 };
-      «design_day» = record { 0 = e .w2 };
-      storage = record { 0 = e .w3 };
-      retainage = e .w4;
-      «demand_rate» = e .w5;
-      «commodity_rate» = e .w6;
-    }
+termsOf e = termsFrom (e .w1) (e .w2) (e .w3) (e .w4) (e .w5) (e .w6)
 
 -- R13: the four words of CLOSE MONTH: W, H, L and E.
 unfoldable pub pricesOf : Entry → Prices

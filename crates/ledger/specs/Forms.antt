@@ -1,19 +1,13 @@
 -- What is wrong with an entry by itself: numbers 1 to 7.
-use Prim.Native.Nat.{ℕ}
-use mathlib.Core.Bool.{Bool, true, false, cond, not, _&&_, _||_}
-use mathlib.Core.List.{List, [], _∷_}
-use lib.Dec.{eqb, leb, ltb}
-use lib.ListN.{length}
+use Rattle.tariff.specs.Vocabulary.{ℕ, Bool, true, false, cond, not, _&&_, _||_, eqb, leb, ltb, List, [], _∷_, length}
+use Rattle.ledger.specs.Structs.{Entry, Kind}
 use Rattle.tariff.specs.Bounds.{mostUnits, mostMdq, mostMcf}
 use Rattle.tariff.specs.Dates.{real}
 use Rattle.tariff.specs.Terms.{termsInRange}
 use Rattle.tariff.specs.Bill.{pricesInRange}
 use Rattle.ledger.specs.Checks.{Check, verdict}
 use Rattle.ledger.specs.Kinds as kinds
-use Rattle.ledger.specs.Kinds.{lookup, kindOf}
 use Rattle.ledger.specs.Entries.{entryOf, termsOf, pricesOf}
-use Rattle.ledger.specs.declared.kinds.Kind.{Kind}
-use Rattle.ledger.specs.declared.entries.Entry.{Entry}
 
 -- R15, number 4: an account that the kind uses is none of the sixteen.
 unfoldable pub accountTooHigh : Kind → Entry → Bool
@@ -39,7 +33,7 @@ someUnits w = leb 1 w && leb w mostUnits
 -- R13: every word that the kind uses is in its range; number 6 otherwise (R15).
 unfoldable pub wordsInRange : Entry → Bool
 wordsInRange e =
-    lookup (e .kind)
+    kinds.lookup (e .kind)
     ((kinds.TERMS, termsInRange (termsOf e))
     ∷ (kinds.ENROL, leb (e .w1) mostMdq && leb (e .w2) mostUnits)
     ∷ (kinds.DELIVER, leb (e .w1) mostUnits && leb (e .w2) mostUnits)
@@ -60,8 +54,8 @@ wrongTransfer e = eqb (e .kind) kinds.TRANSFER && (eqb (e .a) (e .b) || not (eqb
 unfoldable pub fieldChecks : Entry → List Check
 fieldChecks e =
     (not (real (e .date)), 3)
-    ∷ (accountTooHigh (kindOf (e .kind)) e, 4)
-    ∷ (unusedSet (kindOf (e .kind)) e, 5)
+    ∷ (accountTooHigh (kinds.kindOf (e .kind)) e, 4)
+    ∷ (unusedSet (kinds.kindOf (e .kind)) e, 5)
     ∷ (not (wordsInRange e), 6)
     ∷ (wrongTransfer e, 7)
     ∷ []
@@ -71,7 +65,7 @@ fieldNumber e = verdict (fieldChecks e)
 
 -- R15: number 2 comes before them, as they ask what the kind uses.
 unfoldable pub entryChecks : Entry → List Check
-entryChecks e = (not (leb (kindOf (e .kind) .since) 1), 2) ∷ fieldChecks e
+entryChecks e = (not (leb (kinds.kindOf (e .kind) .since) 1), 2) ∷ fieldChecks e
 
 -- R15: the number of 32 bytes: 0, or 2 to 7.
 unfoldable pub entryNumber : Entry → ℕ

@@ -1,15 +1,11 @@
 -- Giving and taking gas: one account's side of it, whoever is on the other.
-use mathlib.Core.Bool.{not}
-use mathlib.Core.List.{List, [], _∷_}
+use Rattle.tariff.specs.Vocabulary.{not, List, [], _∷_}
+use Rattle.ledger.specs.Structs.{Account, Change, Month, Quantity}
 use Rattle.tariff.specs.Amounts.{more, less}
 use Rattle.tariff.specs.Limits.{aboveMaximum, belowMinimum}
-use Rattle.tariff.specs.declared.amounts.Quantity.{Quantity}
-use Rattle.tariff.specs.declared.months.Month.{Month}
 use Rattle.ledger.specs.Checks.{Check, verdict}
 use Rattle.ledger.specs.State.{withBank}
 use Rattle.ledger.specs.Ranges.{accountInRange}
-use Rattle.ledger.specs.declared.state.Account.{Account}
-use Rattle.ledger.specs.declared.changes.Change.{Change}
 
 -- R37 and R38: only the bank moves.
 unfoldable pub afterGiving : Account → Quantity → Account

@@ -1,9 +1,6 @@
 -- The kinds of entries: their numbers, and one table of what each uses.
-use Prim.Native.Nat.{ℕ}
-use mathlib.Core.Bool.{cond}
-use mathlib.Core.List.{List, [], _∷_}
-use lib.Dec.{eqb}
-use Rattle.ledger.specs.declared.kinds.Kind.{Kind}
+use Rattle.tariff.specs.Vocabulary.{ℕ, cond, eqb, List, [], _∷_}
+use Rattle.ledger.specs.Structs.{Kind}
 
 -- R12: the nine kinds, by the number in an entry's first byte.
 abbrev pub TERMS : ℕ

@@ -1,4 +1,5 @@
 -- The ledger: entries, what a ledger holds, each kind of posting, a posting as a whole, and lists of postings.
+pub mod Structs
 pub mod Checks
 pub mod Kinds
 pub mod Entries

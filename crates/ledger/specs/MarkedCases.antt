@@ -1,15 +1,11 @@
 -- Cases worked out in advance, as postings to a fresh ledger: no ledger that refuses everything, or reports nothing, meets them.
-use Prim.Native.Nat.{ℕ, zero, suc, _+_, _/_, _%_}
-use mathlib.Core.Path.{_≡_}
-use mathlib.Core.List.{List, [], _∷_, _++_}
-use lib.IntN.{ℤ, pos, negsuc}
-use lib.ListN.{getD}
+use Rattle.tariff.specs.Vocabulary.{ℕ, zero, suc, _+_, _/_, _%_, ℤ, pos, negsuc, List, [], _∷_, _++_, getD, _≡_}
+use Rattle.ledger.specs.Structs.{Report}
 use Rattle.ledger.specs.Answers.{quiet}
 use Rattle.ledger.specs.State.{fresh, accountAt}
 use Rattle.ledger.specs.Posting.{posted}
 use Rattle.ledger.specs.Panel.{bankOf}
 use Rattle.ledger.specs.Running.{run}
-use Rattle.ledger.specs.declared.answers.Report.{Report}
 
 -- ---- postings of April 2026, in bytes
 

@@ -1,14 +1,10 @@
 -- MEASURE: the month's new MDQ, and whether the step is to move.
-use mathlib.Core.Bool.{true, not}
-use mathlib.Core.List.{List, [], _∷_}
+use Rattle.tariff.specs.Vocabulary.{true, not, List, [], _∷_}
+use Rattle.ledger.specs.Structs.{Account, Change, Dth, Entry}
 use Rattle.tariff.specs.Steps.{measured}
-use Rattle.tariff.specs.declared.amounts.Dth.{Dth}
 use Rattle.ledger.specs.Checks.{Check, verdict}
 use Rattle.ledger.specs.State.{withMeasure, withMonth}
 use Rattle.ledger.specs.Ranges.{accountInRange}
-use Rattle.ledger.specs.declared.state.Account.{Account}
-use Rattle.ledger.specs.declared.entries.Entry.{Entry}
-use Rattle.ledger.specs.declared.changes.Change.{Change}
 
 -- R40: the MDQ holds from now on, for V2's share; the step only waits (R39).
 unfoldable pub remeasured : Account → Dth → Account

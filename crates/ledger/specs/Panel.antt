@@ -1,13 +1,8 @@
 -- The panel: all gas in bank, as one figure.
-use Prim.Native.Nat.{ℕ}
-use mathlib.Core.Bool.{cond}
-use mathlib.Core.List.{List, [], _∷_}
-use lib.IntN.{ℤ, pos, _+ℤ_}
+use Rattle.tariff.specs.Vocabulary.{ℕ, ℤ, pos, _+ℤ_, cond, List, [], _∷_}
+use Rattle.ledger.specs.Structs.{Account, Ledger, Panel}
 use Rattle.ledger.specs.State.{accountAt}
 use Rattle.ledger.specs.Ranges.{inRange}
-use Rattle.ledger.specs.declared.state.Account.{Account}
-use Rattle.ledger.specs.declared.state.Ledger.{Ledger}
-use Rattle.ledger.specs.declared.panels.Panel.{Panel}
 
 -- R60: the bank of an open account; any other counts as 0 (R20).
 unfoldable pub openBank : Account → ℤ

@@ -1,14 +1,9 @@
 -- A posting, whole: bytes of any length and content, to any ledger.
-use Prim.Native.Nat.{ℕ}
-use mathlib.Core.Bool.{cond, not, _&&_}
-use mathlib.Core.List.{List, [], _∷_, _++_}
-use lib.Dec.{eqb}
-use lib.ListN.{length}
+use Rattle.tariff.specs.Vocabulary.{ℕ, cond, not, _&&_, eqb, List, [], _∷_, _++_, length}
+use Rattle.ledger.specs.Structs.{Account, Change, Entry, Ledger, Posted, Terms}
 use Rattle.tariff.specs.Dates.{sameDate}
-use Rattle.tariff.specs.declared.terms.Terms.{Terms}
 use Rattle.ledger.specs.Checks.{Check, verdict}
 use Rattle.ledger.specs.Kinds as kinds
-use Rattle.ledger.specs.Kinds.{lookup, kindOf}
 use Rattle.ledger.specs.Entries.{entryOf}
 use Rattle.ledger.specs.Forms.{entryChecks}
 use Rattle.ledger.specs.Ranges.{inRange}
@@ -23,11 +18,6 @@ use Rattle.ledger.specs.Measure.{measurement}
 use Rattle.ledger.specs.Usage.{usage}
 use Rattle.ledger.specs.Closings.{postClosing}
 use Rattle.ledger.specs.Days.{wrongDay}
-use Rattle.ledger.specs.declared.state.Account.{Account}
-use Rattle.ledger.specs.declared.state.Ledger.{Ledger}
-use Rattle.ledger.specs.declared.entries.Entry.{Entry}
-use Rattle.ledger.specs.declared.changes.Change.{Change}
-use Rattle.ledger.specs.declared.answers.Posted.{Posted}
 
 -- R22: 20 if the ledger is out of range, 21 if it has not begun and this is no TERMS, 22 if it has begun and is at another date.
 -- 23 belongs to the kinds (R27, R30, R40, R42) and is asked here as the first of their checks.
@@ -46,7 +36,7 @@ admission l e = verdict (entryChecks e ++ standingChecks l e)
 -- R23: the kinds that name no account, or two. The last line is never reached, as admission refuses unknown kinds.
 unfoldable pub postSeveral : Ledger → Entry → Posted
 postSeveral l e =
-    lookup (e .kind)
+    kinds.lookup (e .kind)
     ((kinds.TERMS, postTerms l e)
     ∷ (kinds.TRANSFER, postTransfer l e)
     ∷ (kinds.CLOSE-DAY, postClosing l e)
@@ -57,7 +47,7 @@ postSeveral l e =
 -- R23: the kinds that name one account, and change nothing but it.
 unfoldable pub changeOf : Terms → Account → Entry → Change
 changeOf t a e =
-    lookup (e .kind)
+    kinds.lookup (e .kind)
     ((kinds.ENROL, enrolment t a e)
     ∷ (kinds.DELIVER, delivery t a e)
     ∷ (kinds.TRADE, trade a e)
@@ -73,7 +63,7 @@ stored l i c = settle l (c .number) (withAccount l i (c .account))
 -- R23: the kind's own checks, and what it does.
 unfoldable pub postKind : Ledger → Entry → Posted
 postKind l e =
-    cond (eqb (kindOf (e .kind) .accounts) 1)
+    cond (eqb (kinds.kindOf (e .kind) .accounts) 1)
     (stored l (e .a) (changeOf (l .terms) (accountAt l (e .a)) e))
     (postSeveral l e)
 

@@ -1,15 +1,10 @@
 -- The range of every number in a ledger (R16); one outside tells of a damaged ledger (20), or of a posting that goes too far (29).
-use mathlib.Core.Bool.{Bool, true, not, _&&_, _||_}
-use mathlib.Core.List.{List, [], _∷_}
-use lib.Dec.{leb}
+use Rattle.tariff.specs.Vocabulary.{Bool, true, not, _&&_, _||_, leb, List, [], _∷_}
+use Rattle.ledger.specs.Structs.{Account, Ledger, Step, Totals}
 use Rattle.tariff.specs.Bounds.{mostBank, mostOverdraft, mostMdq, mostBcq, mostMcf, mostOwed, mostDays}
 use Rattle.tariff.specs.Amounts.{within, withinMills}
 use Rattle.tariff.specs.Dates.{real}
 use Rattle.tariff.specs.Terms.{termsInRange}
-use Rattle.tariff.specs.declared.bill.Totals.{Totals}
-use Rattle.tariff.specs.declared.steps.Step.{Step}
-use Rattle.ledger.specs.declared.state.Account.{Account}
-use Rattle.ledger.specs.declared.state.Ledger.{Ledger}
 
 -- R18: the month's numbers; of them only net has a sign.
 unfoldable pub totalsInRange : Totals → Bool

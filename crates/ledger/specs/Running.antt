@@ -1,11 +1,7 @@
 -- A list of postings, each to the ledger that the one before it left.
-use Prim.Native.Nat.{ℕ}
-use mathlib.Core.Bool.{Bool}
-use mathlib.Core.List.{List, [], _∷_}
-use lib.Dec.{eqb}
+use Rattle.tariff.specs.Vocabulary.{ℕ, Bool, eqb, List, [], _∷_}
+use Rattle.ledger.specs.Structs.{Answer, Ledger}
 use Rattle.ledger.specs.Posting.{posted}
-use Rattle.ledger.specs.declared.state.Ledger.{Ledger}
-use Rattle.ledger.specs.declared.answers.Answer.{Answer}
 
 -- R61: the ledger at the end.
 abbrev pub run : Ledger → List (List ℕ) → Ledger

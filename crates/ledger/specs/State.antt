@@ -1,19 +1,7 @@
 -- What a ledger remembers between postings, and how one part of it is replaced.
-use Prim.Native.Nat.{ℕ}
-use mathlib.Core.Bool.{Bool, true, false}
-use lib.IntN.{pos}
-use lib.ListN.{getD, set, replicate}
-use Rattle.tariff.specs.declared.amounts.Units.{Units}
-use Rattle.tariff.specs.declared.amounts.Quantity.{Quantity}
-use Rattle.tariff.specs.declared.amounts.Mills.{Mills}
-use Rattle.tariff.specs.declared.amounts.Dth.{Dth}
-use Rattle.tariff.specs.declared.bill.Totals.{Totals}
-use Rattle.tariff.specs.declared.steps.Step.{Step}
-use Rattle.tariff.specs.declared.terms.Capacity.{Capacity}
-use Rattle.ledger.specs.declared.state.Account.{Account}
-use Rattle.ledger.specs.declared.state.Ledger.{Ledger}
-use Rattle.ledger.specs.declared.state.ThisMonth.{ThisMonth}
-use Rattle.ledger.specs.declared.state.Today.{Today}
+use Rattle.tariff.specs.Vocabulary.{ℕ, pos, Bool, true, false, List, getD, set, replicate}
+use Rattle.ledger.specs.Structs.{Account, Capacity, Date, Dth, Ledger, Mcf, Mills, Quantity, Step, Terms, ThisMonth, Today, Totals, Units}
+use Rattle.tariff.specs.Terms.{termsFrom}
 
 -- R16: an account from its parts.
 abbrev pub account : Bool → Bool → Today → Units → Dth → Step → Capacity → ThisMonth → Quantity → Mills → ℕ → Account
@@ -32,17 +20,18 @@ account opened excused today bank mdq step capacity month carry owed days =
       «violation_days» = days;
     }
 
+-- R16: the numbers of an account's month.
+abbrev pub totals : Units → Quantity → Quantity → Quantity → Quantity → Mcf → Totals
+totals net sales purchases ins outs usage =
+    record { net = net; sales = sales; purchases = purchases; «cash_ins» = ins; «cash_outs» = outs; usage = usage }
+
+-- R16: the ledger around them.
+abbrev pub ledger : Bool → Bool → Date → Terms → List Account → Ledger
+ledger begun touched date terms accounts = record { begun = begun; touched = touched; date = date; terms = terms; accounts = accounts }
+
 -- R17: a month in which nothing has happened yet; each CLOSE MONTH begins one (R44).
 unfoldable pub noTotals : Totals
-noTotals =
-    record {
-      net = record { 0 = pos 0 };
-      sales = record { 0 = 0 };
-      purchases = record { 0 = 0 };
-      «cash_ins» = record { 0 = 0 };
-      «cash_outs» = record { 0 = 0 };
-      usage = record { 0 = 0 };
-    }
+noTotals = totals (record { 0 = pos 0 }) (record { 0 = 0 }) (record { 0 = 0 }) (record { 0 = 0 }) (record { 0 = 0 }) (record { 0 = 0 })
 
 unfoldable pub noMonth : ThisMonth
 unfolding noTotals
@@ -61,22 +50,7 @@ nobody =
 
 -- R17: the ledger before its first posting.
 unfoldable pub fresh : Ledger
-fresh =
-    record {
-      begun = false;
-      touched = false;
-      date = record { year = 0; month = record { 0 = 0 }; day = 0 };
-      terms =
-          record {
-            «no_notice» = record { 0 = 0 };
-            «design_day» = record { 0 = 0 };
-            storage = record { 0 = 0 };
-            retainage = 0;
-            «demand_rate» = 0;
-            «commodity_rate» = 0;
-          };
-      accounts = replicate 16 nobody;
-    }
+fresh = ledger false false (record { year = 0; month = record { 0 = 0 }; day = 0 }) (termsFrom 0 0 0 0 0 0) (replicate 16 nobody)
 
 -- R16: account i; beyond the sixteenth there is nobody.
 unfoldable pub accountAt : Ledger → ℕ → Account
@@ -121,5 +95,4 @@ withTotals a totals = withMonth a (record { totals = totals; measured = a .month
 
 -- R19: storing an account is accepting, so the day is touched.
 unfoldable pub withAccount : Ledger → ℕ → Account → Ledger
-withAccount l i a =
-    record { begun = l .begun; touched = true; date = l .date; terms = l .terms; accounts = set (l .accounts) i a }
+withAccount l i a = ledger (l .begun) true (l .date) (l .terms) (set (l .accounts) i a)

@@ -1,26 +1,16 @@
 -- TRADE: the company sells gas to an account, or buys gas from it.
-use mathlib.Core.Bool.{Bool, true, false, cond, not}
+use Rattle.tariff.specs.Vocabulary.{Bool, true, false, cond, not}
+use Rattle.ledger.specs.Structs.{Account, Change, Entry, Quantity, Totals}
 use Rattle.tariff.specs.Amounts.{together}
-use Rattle.tariff.specs.declared.amounts.Quantity.{Quantity}
-use Rattle.tariff.specs.declared.bill.Totals.{Totals}
 use Rattle.ledger.specs.Entries.{companySells}
-use Rattle.ledger.specs.State.{withTotals}
+use Rattle.ledger.specs.State.{totals, withTotals}
 use Rattle.ledger.specs.Gas.{giving, taking}
-use Rattle.ledger.specs.declared.state.Account.{Account}
-use Rattle.ledger.specs.declared.entries.Entry.{Entry}
-use Rattle.ledger.specs.declared.changes.Change.{Change}
 
 -- R38: sales and purchases are summed apart, as the bill rounds each by itself (R54).
 unfoldable pub withTrade : Bool → Totals → Quantity → Totals
 withTrade sells m q =
-    record {
-      net = m .net;
-      sales = cond sells (together (m .sales) q) (m .sales);
-      purchases = cond sells (m .purchases) (together (m .purchases) q);
-      «cash_ins» = m .«cash_ins»;
-      «cash_outs» = m .«cash_outs»;
-      usage = m .usage;
-    }
+    totals (m .net) (cond sells (together (m .sales) q) (m .sales)) (cond sells (m .purchases) (together (m .purchases) q)) (m .«cash_ins»)
+    (m .«cash_outs») (m .usage)
 
 -- R38: the account whose month counts the trade.
 unfoldable pub booked : Bool → Account → Quantity → Account

@@ -1,15 +1,10 @@
 -- TRANSFER: gas of one supplier becomes that of another.
-use mathlib.Core.Bool.{not, _&&_, _||_}
-use mathlib.Core.List.{List, [], _∷_}
-use lib.Dec.{eqb}
+use Rattle.tariff.specs.Vocabulary.{not, _&&_, _||_, eqb, List, [], _∷_}
+use Rattle.ledger.specs.Structs.{Change, Entry, Ledger, Posted}
 use Rattle.ledger.specs.Checks.{Check, verdict}
 use Rattle.ledger.specs.State.{accountAt, withAccount}
 use Rattle.ledger.specs.Gas.{giving, taking}
 use Rattle.ledger.specs.Answers.{settle}
-use Rattle.ledger.specs.declared.state.Ledger.{Ledger}
-use Rattle.ledger.specs.declared.entries.Entry.{Entry}
-use Rattle.ledger.specs.declared.changes.Change.{Change}
-use Rattle.ledger.specs.declared.answers.Posted.{Posted}
 
 -- R37: A gives w1, and B takes it.
 unfoldable pub giver : Ledger → Entry → Change

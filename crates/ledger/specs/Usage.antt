@@ -1,26 +1,13 @@
 -- USAGE: what a supplier's customers consumed in the month, for the bill.
-use mathlib.Core.Bool.{true, not}
-use mathlib.Core.List.{List, [], _∷_}
-use Rattle.tariff.specs.declared.amounts.Mcf.{Mcf}
-use Rattle.tariff.specs.declared.bill.Totals.{Totals}
+use Rattle.tariff.specs.Vocabulary.{true, not, List, [], _∷_}
+use Rattle.ledger.specs.Structs.{Account, Change, Entry, Mcf, Totals}
 use Rattle.ledger.specs.Checks.{Check, verdict}
-use Rattle.ledger.specs.State.{withMonth}
+use Rattle.ledger.specs.State.{totals, withMonth}
 use Rattle.ledger.specs.Ranges.{accountInRange}
-use Rattle.ledger.specs.declared.state.Account.{Account}
-use Rattle.ledger.specs.declared.entries.Entry.{Entry}
-use Rattle.ledger.specs.declared.changes.Change.{Change}
 
 -- R41: consumption is told once for the whole month, so it is set and not added.
 unfoldable pub withUsage : Totals → Mcf → Totals
-withUsage m usage =
-    record {
-      net = m .net;
-      sales = m .sales;
-      purchases = m .purchases;
-      «cash_ins» = m .«cash_ins»;
-      «cash_outs» = m .«cash_outs»;
-      usage = usage;
-    }
+withUsage m usage = totals (m .net) (m .sales) (m .purchases) (m .«cash_ins») (m .«cash_outs») usage
 
 -- R41: told, which the month's closing asks for (R43).
 unfoldable pub metered : Account → Mcf → Account

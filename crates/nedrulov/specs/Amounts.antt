@@ -1,8 +1,5 @@
 -- R82: the amount of a delivery for programs that explain figures, for every input.
-use Prim.Native.Nat.{ℕ}
-use mathlib.Core.Bool.{Bool, cond, _&&_}
-use lib.Dec.{leb}
-use lib.IntN.{ℤ, pos}
+use Rattle.tariff.specs.Vocabulary.{ℕ, ℤ, pos, Bool, cond, _&&_, leb}
 use Rattle.tariff.specs.Bounds.{mostRetainage, mostUnits}
 use Rattle.tariff.specs.Delivery.{retained}
 

@@ -1,10 +1,5 @@
 -- R80: the year sheet in cells that the caller lends, a row of twelve for each of sixteen accounts, one after the other.
-use Prim.Native.Nat.{_/_, _%_}
-use mathlib.Core.Bool.{cond}
-use mathlib.Core.List.{List, _++_}
-use lib.Dec.{ltb}
-use lib.IntN.{ℤ}
-use lib.ListN.{length, drop}
+use Rattle.tariff.specs.Vocabulary.{_/_, _%_, ℤ, cond, ltb, List, _++_, length, drop}
 use Rattle.tariff.specs.declared.amounts.Units.{Units}
 use Rattle.archive.specs.YearSheet.{upTo, cellAt}
 

@@ -1,7 +1,5 @@
 -- R82: the two ends of a month's band for programs that explain figures, for every input.
-use Prim.Native.Nat.{ℕ}
-use mathlib.Core.Bool.{Bool, cond, _&&_}
-use lib.Dec.{leb}
+use Rattle.tariff.specs.Vocabulary.{ℕ, Bool, cond, _&&_, leb}
 use Rattle.tariff.specs.Bounds.{mostBcq}
 use Rattle.tariff.specs.Amounts.{percent}
 use Rattle.tariff.specs.Months.{minimum, maximum}

@@ -1,11 +1,11 @@
 // The door for firmware: what a C or Rust program links. Every function answers every input, keeps no state,
 // and writes only to what the caller lends it.
+mod cells;
+
 ghost use mathlib.Core.Path.{_≡_};
 ghost use mathlib.Core.Bool.{cond};
-ghost use Prim.Native.Nat.{_≤_};
 ghost use lib.Dec.{ltb};
-ghost use lib.ListN.{length, drop};
-ghost use mathlib.Core.List.{_++_};
+ghost use lib.ListN.{length};
 ghost use Rattle.ledger.specs.State.{fresh};
 ghost use Rattle.ledger.specs.Forms.{formNumber};
 ghost use Rattle.ledger.specs.Posting.{posted};
@@ -14,9 +14,10 @@ ghost use Rattle.archive.specs.Writing.{written, outputAfter};
 ghost use Rattle.archive.specs.Reading.{checked, placeOf};
 ghost use Rattle.archive.specs.Replay.{figuresOf};
 ghost use Rattle.archive.specs.YearSheet.{sheetOf};
-ghost use Rattle.nedrulov.specs.Cells.{cellsOf, cellsAfter};
+ghost use Rattle.nedrulov.specs.Cells.{cellsAfter};
 ghost use Rattle.nedrulov.specs.Amounts.{deliveryAmount};
 ghost use Rattle.nedrulov.specs.Limits.{bandOf};
+use crate::cells::put_cells;
 use archive::Checked;
 use archive::Figures;
 use archive::Place;
@@ -27,7 +28,6 @@ use ledger::Panel;
 use ledger::Posted;
 use tariff::amounts::Dth;
 use tariff::amounts::Quantity;
-use tariff::amounts::Units;
 use tariff::bounds::MOST_BCQ;
 use tariff::bounds::MOST_RETAINAGE;
 use tariff::bounds::MOST_UNITS;
@@ -120,19 +120,6 @@ pub extern "C" fn nedrulov_year_sheet(archive: &[u8], year: u64, cells: &mut [i6
     let sheet = archive::year_sheet(archive, year);
     put_cells(sheet, cells);
     0
-}
-
-fn put_cells(sheet: [[Units; 12]; 16], cells: &mut [i64])
-    requires { ⌜ 192 ≤ length (now cells) ⌝ }
-    ensures { λ _. ⌜ now (cells .exit) ≡ cellsOf sheet ++ drop 192 (now (cells .entry)) ⌝ }
-{
-    for k in 0..192 {
-        let i = k / 12;
-        let m = k % 12;
-        let bank = sheet[i][m];
-        let units = bank.0;
-        cells[k] = units;
-    }
 }
 
 // The amount that a DELIVER adds to its bank under the retainage R; 0 where one of the three is out of its range.

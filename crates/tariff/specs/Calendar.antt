@@ -1,9 +1,7 @@
 -- R6, R7: the day after a date is the right one, stated without the definition that computes it.
-use Prim.Native.Nat.{ℕ, _+_, _*_, _%_, _≤_, _<_}
-use mathlib.Core.Path.{_≡_}
-use mathlib.Core.Bool.{true, false}
+use Rattle.tariff.specs.Vocabulary.{ℕ, _+_, _*_, _%_, _<_, _≤_, true, false, _≡_}
+use Rattle.tariff.specs.Structs.{Date}
 use Rattle.tariff.specs.Dates.{real, lastDate, dayAfter, weekday}
-use Rattle.tariff.specs.declared.dates.Date.{Date}
 
 -- R6: a date as one number, the year foremost (27 April 2026 is 20260427): later dates have larger numbers.
 unfoldable pub written : Date → ℕ

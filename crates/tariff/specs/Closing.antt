@@ -1,14 +1,9 @@
 -- R45 to R57: what a closing finds in an account, and what it does to it: violations, cash, carry and forfeit.
-use Prim.Native.Nat.{ℕ, _+_, _-_}
-use mathlib.Core.Bool.{Bool, cond, not, _&&_, _||_}
+use Rattle.tariff.specs.Vocabulary.{ℕ, _+_, _-_, Bool, cond, not, _&&_, _||_}
+use Rattle.tariff.specs.Structs.{Date, Dth, Month, Quantity, Units}
 use Rattle.tariff.specs.Amounts.{nothing, inward, opposite, gap, above, below, less, percent}
 use Rattle.tariff.specs.Months.{sameMonth, january, february, march, june, august, minimum, maximum, mmbq, withdrawalMaximum, withdrawalMinimum, winter}
 use Rattle.tariff.specs.Dates.{isOn, lastOfMonth}
-use Rattle.tariff.specs.declared.amounts.Dth.{Dth}
-use Rattle.tariff.specs.declared.amounts.Quantity.{Quantity}
-use Rattle.tariff.specs.declared.amounts.Units.{Units}
-use Rattle.tariff.specs.declared.months.Month.{Month}
-use Rattle.tariff.specs.declared.dates.Date.{Date}
 
 -- R45: a month's net injection above its MMBQ share of the BCQ.
 unfoldable pub breaksV3 : Month → Dth → Units → Bool

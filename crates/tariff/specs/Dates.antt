@@ -1,12 +1,7 @@
 -- R5 to R9: dates in the Gregorian calendar, 2000 to 2099.
-use Prim.Native.Nat.{ℕ, _+_, _*_, _-_, _/_, _%_}
-use mathlib.Core.Bool.{Bool, cond, not, _&&_, _||_}
-use mathlib.Core.List.{List, [], _∷_}
-use lib.Dec.{eqb, leb, ltb}
-use lib.ListN.{getD, take}
+use Rattle.tariff.specs.Vocabulary.{ℕ, _+_, _-_, _*_, _/_, _%_, Bool, cond, not, _&&_, _||_, eqb, leb, ltb, List, [], _∷_, getD, take}
+use Rattle.tariff.specs.Structs.{Date, Month}
 use Rattle.tariff.specs.Months.{sameMonth, april, december}
-use Rattle.tariff.specs.declared.months.Month.{Month}
-use Rattle.tariff.specs.declared.dates.Date.{Date}
 
 -- R5: k divides n.
 unfoldable pub divides : ℕ → ℕ → Bool

@@ -1,15 +1,8 @@
 -- R31 to R34: what a day's delivery adds to the bank, and the two limits on a day.
-use Prim.Native.Nat.{ℕ, _*_, _-_}
-use mathlib.Core.Bool.{Bool, cond, not, _||_}
-use lib.IntN.{pos, _-ℤ_, _*ℤ_}
-use lib.Signed.{quotZ}
-use lib.Dec.{ltb, leb}
+use Rattle.tariff.specs.Vocabulary.{ℕ, _-_, _*_, pos, _-ℤ_, _*ℤ_, quotZ, Bool, cond, not, _||_, leb, ltb}
+use Rattle.tariff.specs.Structs.{Dth, Month, Quantity, Units}
 use Rattle.tariff.specs.Amounts.{inward, outward, below, percent}
 use Rattle.tariff.specs.Months.{sameMonth, november, december, mmbq}
-use Rattle.tariff.specs.declared.amounts.Dth.{Dth}
-use Rattle.tariff.specs.declared.amounts.Quantity.{Quantity}
-use Rattle.tariff.specs.declared.amounts.Units.{Units}
-use Rattle.tariff.specs.declared.months.Month.{Month}
 
 -- R31: what retainage leaves of the gas brought less the back-cast. R4: toward zero, as quotZ rounds on both sides.
 unfoldable pub retained : ℕ → Quantity → Quantity → Units

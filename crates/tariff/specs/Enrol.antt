@@ -1,9 +1,7 @@
 -- R28, R29: who is served, and with how much in bank.
-use mathlib.Core.Bool.{Bool, not, _&&_, _||_}
-use lib.Dec.{ltb}
+use Rattle.tariff.specs.Vocabulary.{Bool, not, _&&_, _||_, ltb}
+use Rattle.tariff.specs.Structs.{Dth, Quantity}
 use Rattle.tariff.specs.Amounts.{percent}
-use Rattle.tariff.specs.declared.amounts.Dth.{Dth}
-use Rattle.tariff.specs.declared.amounts.Quantity.{Quantity}
 
 -- R28: small loads and those that do not follow the weather stay on FBS; from 1,000 Dth a supplier may choose, from 6,000 it is served.
 unfoldable pub staysOnFbs : Bool → Bool → Dth → Bool

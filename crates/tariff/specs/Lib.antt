@@ -1,4 +1,6 @@
 -- The tariff's rules by subject: numbers and calendar, then terms, enrolment, deliveries, steps, closings and the bill.
+pub mod Vocabulary
+pub mod Structs
 pub mod Bounds
 pub mod Amounts
 pub mod Months

@@ -1,35 +1,19 @@
 -- R67: cases worked out in advance, of the definitions themselves.
 -- case3 and case5 are stated of the tests that decide numbers 28 and 25.
-use Prim.Native.Nat.{ℕ}
-use mathlib.Core.Path.{_≡_}
-use mathlib.Core.Bool.{true, false}
-use lib.IntN.{pos, negsuc}
+use Rattle.tariff.specs.Vocabulary.{ℕ, pos, negsuc, negℤ, true, false, _≡_}
+use Rattle.tariff.specs.Structs.{Dth, Prices, Quantity, Step, Terms, Units}
 use Rattle.tariff.specs.Months.{february, march, april}
 use Rattle.tariff.specs.Dates.{measurementDay}
-use Rattle.tariff.specs.Terms.{termsInRange, capacityOf}
+use Rattle.tariff.specs.Terms.{termsFrom, termsInRange, capacityOf}
 use Rattle.tariff.specs.Enrol.{staysOnFbs, openingTooHigh}
 use Rattle.tariff.specs.Delivery.{retained, breaksV1, shareOf}
 use Rattle.tariff.specs.Steps.{stepOf, measured}
 use Rattle.tariff.specs.Closing.{cashOf, carryOf}
 use Rattle.tariff.specs.Bill.{cashInCharge}
-use Rattle.tariff.specs.declared.amounts.Dth.{Dth}
-use Rattle.tariff.specs.declared.amounts.Quantity.{Quantity}
-use Rattle.tariff.specs.declared.amounts.Units.{Units}
-use Rattle.tariff.specs.declared.bill.Prices.{Prices}
-use Rattle.tariff.specs.declared.steps.Step.{Step}
-use Rattle.tariff.specs.declared.terms.Terms.{Terms}
 
 -- R26, R67: the terms of all examples, at no rates.
 abbrev pub markedTerms : Terms
-markedTerms =
-    record {
-      «no_notice» = record { 0 = 120000 };
-      «design_day» = record { 0 = 480000 };
-      storage = record { 0 = 5000400 };
-      retainage = 150;
-      «demand_rate» = 0;
-      «commodity_rate» = 0;
-    }
+markedTerms = termsFrom 120000 480000 5000400 150 0 0
 
 -- R67: a number as Dth, as units moved, and as units in bank.
 abbrev pub dth : ℕ → Dth
@@ -41,12 +25,9 @@ quantity n = record { 0 = n }
 abbrev pub bank : ℕ → Units
 bank n = record { 0 = pos n }
 
--- R67: −1 and −1,000 units.
-abbrev pub minusOne : Units
-minusOne = record { 0 = negsuc 0 }
-
-abbrev pub minusThousand : Units
-minusThousand = record { 0 = negsuc 999 }
+-- R67: −n units.
+abbrev pub overdrawn : ℕ → Units
+overdrawn n = record { 0 = negℤ (pos n) }
 
 -- R67: a step k with no run begun.
 abbrev pub atStep : ℕ → Step
@@ -85,10 +66,10 @@ pub record MarkedCases : Type 0 where
       × (measured (atStep 2) (dth 2500) .pending ≡ 1)
       × (measured (atStep 2) (dth 3000) .pending ≡ 2)
   -- R52: an overdraft of a unit in April, whose minimum is 0.
-  pub case7 : cashOf april false (dth 62505) minusOne ≡ bank 1
+  pub case7 : cashOf april false (dth 62505) (overdrawn 1) ≡ bank 1
   -- R54: the charge for a cash-in of 1,000 units.
   pub case8 : cashInCharge markedPrices (quantity 1000) ≡ record { 0 = 34100 }
   -- R8: a month whose 25th is a Saturday.
   pub case9 : measurementDay 2026 april ≡ 27
   -- R55: a mistake to shut out: February's excess of withdrawals is carried on, March's is not.
-  pub carry : (carryOf february (quantity 400) minusThousand ≡ quantity 600) × (carryOf march (quantity 400) minusThousand ≡ quantity 0)
+  pub carry : (carryOf february (quantity 400) (overdrawn 1000) ≡ quantity 600) × (carryOf march (quantity 400) (overdrawn 1000) ≡ quantity 0)

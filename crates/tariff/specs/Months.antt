@@ -1,10 +1,6 @@
 -- R9, R10: a month is its own type, and every percentage is asked of it; tables begin with April, as the gas year does.
-use Prim.Native.Nat.{ℕ, _+_, _%_}
-use mathlib.Core.Bool.{Bool}
-use mathlib.Core.List.{[], _∷_}
-use lib.Dec.{eqb, leb}
-use lib.ListN.{getD}
-use Rattle.tariff.specs.declared.months.Month.{Month}
+use Rattle.tariff.specs.Vocabulary.{ℕ, _+_, _%_, Bool, eqb, leb, [], _∷_, getD}
+use Rattle.tariff.specs.Structs.{Month}
 
 -- R9: the months that rules name, by their numbers in the calendar year.
 unfoldable pub january : Month

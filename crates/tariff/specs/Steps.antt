@@ -1,9 +1,6 @@
 -- R25, R39, R56: the step of an MDQ, the step that waits for the month's end, and the runs that keep a small change waiting.
-use Prim.Native.Nat.{ℕ, _+_, _*_, _-_, _/_, max}
-use mathlib.Core.Bool.{Bool, cond, _&&_, _||_}
-use lib.Dec.{leb, ltb}
-use Rattle.tariff.specs.declared.amounts.Dth.{Dth}
-use Rattle.tariff.specs.declared.steps.Step.{Step}
+use Rattle.tariff.specs.Vocabulary.{ℕ, _+_, _-_, _*_, _/_, max, Bool, cond, _&&_, _||_, leb, ltb}
+use Rattle.tariff.specs.Structs.{Dth, Step}
 
 -- R25: the number of started blocks of 3,000 Dth. R4: the one quotient that is rounded up.
 unfoldable pub stepOf : Dth → ℕ

@@ -1,11 +1,19 @@
 -- R13, R26: the terms in force, and what a step of MDQ is worth under them.
-use Prim.Native.Nat.{ℕ, _*_, _/_}
-use mathlib.Core.Bool.{Bool, _&&_}
-use lib.Dec.{leb}
+use Rattle.tariff.specs.Vocabulary.{ℕ, _*_, _/_, Bool, _&&_, leb}
+use Rattle.tariff.specs.Structs.{Capacity, Dth, Terms}
 use Rattle.tariff.specs.Bounds.{mostNoNotice, mostDesignDay, mostRetainage, mostRate}
-use Rattle.tariff.specs.declared.amounts.Dth.{Dth}
-use Rattle.tariff.specs.declared.terms.Terms.{Terms}
-use Rattle.tariff.specs.declared.terms.Capacity.{Capacity}
+
+-- R13: terms from their six numbers, in the order of an entry's words.
+abbrev pub termsFrom : ℕ → ℕ → ℕ → ℕ → ℕ → ℕ → Terms
+termsFrom nn dd s r demand commodity =
+    record {
+      «no_notice» = record { 0 = nn };
+      «design_day» = record { 0 = dd };
+      storage = record { 0 = s };
+      retainage = r;
+      «demand_rate» = demand;
+      «commodity_rate» = commodity;
+    }
 
 -- R13: NN is at least 1 and at most DD and S, so nothing below divides by 0 and an MDDQ is at most its MDQ's blocks.
 -- S of at most a hundred times NN keeps a BCQ within a hundred times its MDDQ.

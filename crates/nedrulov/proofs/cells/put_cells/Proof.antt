@@ -15,8 +15,8 @@ use Rattle.archive.proofs.Grids.{get-upTo, length-upTo, cell-at}
 use Rattle.archive.specs.YearSheet.{cellAt}
 use Rattle.tariff.specs.declared.amounts.Units.{Units}
 use Rattle.nedrulov.specs.Cells.{cellsOf}
-use Rattle.nedrulov.proofs.put_cells.Statement.{statement}
-use Rattle.nedrulov.proofs.put_cells.Tie as tie
+use Rattle.nedrulov.proofs.cells.put_cells.Statement.{statement}
+use Rattle.nedrulov.proofs.cells.put_cells.Tie as tie
 
 length-cells : (sheet : List (List Units)) → length (cellsOf sheet) ≡ 192
 unfolding cellsOf

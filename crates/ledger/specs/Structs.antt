@@ -1,0 +1,25 @@
+-- The structs that definitions speak of, as the code declares them.
+pub use Rattle.tariff.specs.declared.amounts.Dth.{Dth}
+pub use Rattle.tariff.specs.declared.amounts.Mcf.{Mcf}
+pub use Rattle.tariff.specs.declared.amounts.Mills.{Mills}
+pub use Rattle.tariff.specs.declared.amounts.Quantity.{Quantity}
+pub use Rattle.tariff.specs.declared.amounts.Units.{Units}
+pub use Rattle.tariff.specs.declared.bill.Prices.{Prices}
+pub use Rattle.tariff.specs.declared.bill.Totals.{Totals}
+pub use Rattle.tariff.specs.declared.dates.Date.{Date}
+pub use Rattle.tariff.specs.declared.months.Month.{Month}
+pub use Rattle.tariff.specs.declared.steps.Step.{Step}
+pub use Rattle.tariff.specs.declared.terms.Capacity.{Capacity}
+pub use Rattle.tariff.specs.declared.terms.Terms.{Terms}
+pub use Rattle.ledger.specs.declared.answers.Answer.{Answer}
+pub use Rattle.ledger.specs.declared.answers.Posted.{Posted}
+pub use Rattle.ledger.specs.declared.answers.Report.{Report}
+pub use Rattle.ledger.specs.declared.changes.Change.{Change}
+pub use Rattle.ledger.specs.declared.closing.Closed.{Closed}
+pub use Rattle.ledger.specs.declared.entries.Entry.{Entry}
+pub use Rattle.ledger.specs.declared.kinds.Kind.{Kind}
+pub use Rattle.ledger.specs.declared.panels.Panel.{Panel}
+pub use Rattle.ledger.specs.declared.state.Account.{Account}
+pub use Rattle.ledger.specs.declared.state.Ledger.{Ledger}
+pub use Rattle.ledger.specs.declared.state.ThisMonth.{ThisMonth}
+pub use Rattle.ledger.specs.declared.state.Today.{Today}
