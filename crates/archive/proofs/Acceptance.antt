@@ -13,7 +13,7 @@ use Rattle.archive.specs.Entries.{entriesOf, finding, firstRefusal}
 use Rattle.archive.specs.Layout.{sectionsOf, archiveOf}
 use Rattle.archive.specs.Writing.{listChecked, tooLarge, unwritten, written}
 use Rattle.archive.specs.Reading.{wrongHeader, rightDirectory, numbersOf, partsOf, checked}
-use Rattle.archive.specs.declared.entries.Checked.{Checked}
+use Rattle.archive.specs.Structs.{Checked}
 use Rattle.archive.proofs.Refusals.{Zeros, none-refused, all-zero}
 use Rattle.archive.proofs.Headers.{Measured, measured}
 

@@ -8,10 +8,9 @@ use mathlib.Core.List.{List, [], _∷_}
 use lib.Dec.{eqb, ltb, eqb·zero-suc, eqb·suc-zero, eqb·suc-suc}
 use lib.IntN.{pos}
 use lib.ListN.{length, getD, set}
-use Rattle.tariff.specs.declared.amounts.Units.{Units}
+use Rattle.archive.specs.Structs.{Ledger, Units}
 use Rattle.ledger.specs.State.{fresh}
 use Rattle.ledger.specs.Posting.{posted}
-use Rattle.ledger.specs.declared.state.Ledger.{Ledger}
 use Rattle.ledger.specs.declared.answers.Posted.{Posted}
 use Rattle.archive.specs.YearSheet.{upTo, grid, noBank, cellAt, bankIn, closesIn, cellAfter}
 

@@ -6,7 +6,7 @@ use mathlib.Core.List.{List, [], _∷_, _++_, map}
 use lib.Dec.{eqb}
 use lib.ListN.{length, take, drop, length-map}
 use Rattle.archive.specs.Entries.{firstEntries, entriesOf, firstRefusal}
-use Rattle.archive.specs.declared.entries.Checked.{Checked}
+use Rattle.archive.specs.Structs.{Checked}
 use Rattle.archive.specs.Reading.{pairAt, pairsFrom, partAt, numberIn, numbersIn, numbersOf}
 use Rattle.archive.proofs.EntryLists.{entries-next, length-entries}
 use Rattle.archive.proofs.Findings.{last-one, refusal-past, refusal-within}

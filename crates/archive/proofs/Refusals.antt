@@ -6,7 +6,7 @@ use mathlib.Core.Bool.{Bool, true, false, cond}
 use mathlib.Core.List.{List, [], _∷_, _++_}
 use lib.Dec.{eqb}
 use Rattle.archive.specs.Entries.{finding, firstRefusal}
-use Rattle.archive.specs.declared.entries.Checked.{Checked}
+use Rattle.archive.specs.Structs.{Checked}
 
 -- each of them is 0
 abbrev pub Zeros : List ℕ → Type 0

@@ -8,7 +8,7 @@ use lib.Dec.{eqb}
 use lib.ListN.{take, drop}
 use Rattle.ledger.specs.Posting.{posted}
 use Rattle.ledger.specs.Running.{Line, history, run}
-use Rattle.ledger.specs.declared.state.Ledger.{Ledger}
+use Rattle.archive.specs.Structs.{Ledger}
 use Rattle.ledger.specs.declared.answers.Posted.{Posted}
 use Rattle.archive.specs.Entries.{firstEntries}
 use Rattle.archive.specs.Replay.{countOf, asAccepted, asRefused}

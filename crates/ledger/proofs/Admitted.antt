@@ -11,8 +11,7 @@ use Rattle.ledger.specs.Forms.{fieldChecks, fieldNumber, entryChecks, en
 use Rattle.ledger.specs.Ranges.{inRange}
 use Rattle.ledger.specs.Days.{wrongDay}
 use Rattle.ledger.specs.Posting.{standingChecks, admission}
-use Rattle.ledger.specs.declared.state.Ledger.{Ledger}
-use Rattle.ledger.specs.declared.entries.Entry.{Entry}
+use Rattle.ledger.specs.Structs.{Entry, Ledger}
 use Rattle.ledger.proofs.RightEntries as right
 use Rattle.ledger.proofs.Verdicts.{first, clear, verdict-append}
 

@@ -7,7 +7,7 @@ use lib.IntN.{ℤ, _+ℤ_, +ℤ-assoc, +ℤ-idr}
 use lib.ListN.{length, drop, getD, drop-of-length-le}
 use lib.Seq.{drop-cons}
 use Rattle.ledger.specs.Panel.{openBank, openBanks}
-use Rattle.ledger.specs.declared.state.Account.{Account}
+use Rattle.ledger.specs.Structs.{Account}
 
 pub banks-next : (xs : List Account) (i : ℕ) (d : Account) (x : ℤ) → i < length xs → x +ℤ openBanks (drop i xs) ≡ (x +ℤ openBank (getD xs i d)) +ℤ openBanks (drop (i + 1) xs)
 unfolding openBanks

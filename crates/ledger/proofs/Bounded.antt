@@ -9,13 +9,11 @@ use borrow.Author.Tests.{leb-true}
 use Rattle.tariff.specs.Amounts.{size, sizeMills}
 use Rattle.tariff.specs.Dates.{real}
 use Rattle.tariff.specs.Terms.{termsInRange}
-use Rattle.tariff.specs.declared.bill.Totals.{Totals}
+use Rattle.ledger.specs.Structs.{Account, Ledger, Totals}
 use Rattle.tariff.proofs.Bools.{and-left, and-right, parts}
 use Rattle.tariff.proofs.Laws.{within-size, within-mills-size}
 use Rattle.ledger.specs.State.{nobody, accountAt}
 use Rattle.ledger.specs.Ranges.{totalsInRange, stepInRange, accountInRange, everyAccount, inRange}
-use Rattle.ledger.specs.declared.state.Account.{Account}
-use Rattle.ledger.specs.declared.state.Ledger.{Ledger}
 use Rattle.ledger.proofs.Lists.{every-at}
 
 pub record TotalsBounded (m : Totals) : Type 0 where

@@ -4,14 +4,12 @@ use mathlib.Core.Path.{_≡_}
 use mathlib.Core.Bool.{true}
 use native.Mathlib.Omega.{arith}
 use Rattle.tariff.specs.Amounts.{size, sizeMills, inward, outward}
-use Rattle.tariff.specs.declared.amounts.Units.{Units}
-use Rattle.tariff.specs.declared.dates.Date.{Date}
+use Rattle.ledger.specs.Structs.{Account, Date, Units}
 use Rattle.tariff.proofs.Laws.{together-value}
 use Rattle.tariff.proofs.Sizes.{size-plus, inward-le, outward-le}
 use Rattle.ledger.specs.Ranges.{accountInRange}
 use Rattle.ledger.specs.Closing.{withCash, dayEnd}
 use Rattle.ledger.specs.State.{withBank, withDays, withExcuse, withMonth, withToday, withTotals}
-use Rattle.ledger.specs.declared.state.Account.{Account}
 use Rattle.ledger.proofs.Bounded.{bounded, stepped}
 
 pub record Closable (a : Account) : Type 0 where

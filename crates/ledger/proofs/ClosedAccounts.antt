@@ -7,8 +7,7 @@ use lib.Dec.{eqb}
 use lib.IntN.{ℤ, pos, negℤ, _+ℤ_, _-ℤ_, +ℤ-idr, +ℤ-assoc}
 use lib.ListN.{getD, List·getD-map}
 use Rattle.tariff.specs.Amounts.{inward, outward, sum, less, added}
-use Rattle.tariff.specs.declared.amounts.Units.{Units}
-use Rattle.tariff.specs.declared.terms.Terms.{Terms}
+use Rattle.ledger.specs.Structs.{Account, Closed, Entry, Ledger, Report, Terms, Units}
 use Rattle.tariff.proofs.Bools.{either}
 use Rattle.tariff.proofs.Laws.{sum-value, less-value, added-value, in-and-out, inward-zero, outward-zero}
 use Rattle.ledger.specs.Entries.{pricesOf}
@@ -18,11 +17,6 @@ use Rattle.ledger.specs.Closing.{violationsOf, cashAt, dayEnd, afterDay,
 use Rattle.ledger.specs.Closings.{closed}
 use Rattle.ledger.proofs.KindCases.{done, each, _then_}
 use Rattle.ledger.specs.Panel.{openBank}
-use Rattle.ledger.specs.declared.state.Account.{Account}
-use Rattle.ledger.specs.declared.state.Ledger.{Ledger}
-use Rattle.ledger.specs.declared.entries.Entry.{Entry}
-use Rattle.ledger.specs.declared.answers.Report.{Report}
-use Rattle.ledger.specs.declared.closing.Closed.{Closed}
 
 abbrev pub openOwed : Account → ℤ
 openOwed a = cond (a .opened) (a .owed .0) (pos 0)

@@ -21,10 +21,7 @@ use Rattle.ledger.specs.Measure.{measurement}
 use Rattle.ledger.specs.Usage.{usage}
 use Rattle.ledger.specs.Closings.{postClosing, closingChecks, closed}
 use Rattle.ledger.specs.Posting.{admission, postSeveral, changeOf, stored, postKind, postEntry, posted}
-use Rattle.ledger.specs.declared.state.Account.{Account}
-use Rattle.ledger.specs.declared.state.Ledger.{Ledger}
-use Rattle.ledger.specs.declared.entries.Entry.{Entry}
-use Rattle.ledger.specs.declared.changes.Change.{Change}
+use Rattle.ledger.specs.Structs.{Account, Change, Entry, Ledger}
 use Rattle.ledger.proofs.RightEntries.{a-fits}
 use Rattle.ledger.proofs.Admitted.{is-right}
 use Rattle.ledger.proofs.KindCases.{done, _then_, each}

@@ -6,8 +6,7 @@ use lib.IntN.{pos, _+ℤ_}
 use lib.ListN.{getD}
 use Rattle.ledger.specs.State.{nobody, accountAt}
 use Rattle.ledger.specs.Panel.{openBank, bankOf, openBanks, panelOf}
-use Rattle.ledger.specs.declared.state.Account.{Account}
-use Rattle.ledger.specs.declared.state.Ledger.{Ledger}
+use Rattle.ledger.specs.Structs.{Account, Ledger}
 use Rattle.ledger.proofs.OneStep.{Sound}
 
 pub panel-of-sound : (l : Ledger) → Sound l → panelOf l ≡ record { number = 0; figure = record { 0 = openBanks (l .accounts) } }

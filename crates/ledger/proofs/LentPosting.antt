@@ -42,9 +42,7 @@ use denote.Triple.Walked.{says, Stays, stay-ref, stay-none-slice, walkOf, AllGo,
 use denote.Triple.Clauses.{ensured, lasts}
 use denote.Exit.{yes}
 use Rattle.ledger.specs.Posting.{posted}
-use Rattle.ledger.specs.declared.state.Ledger.{Ledger}
-use Rattle.ledger.specs.declared.answers.Answer.{Answer}
-use Rattle.ledger.specs.declared.answers.Posted.{Posted}
+use Rattle.ledger.specs.Structs.{Answer, Ledger, Posted}
 use Rattle.ledger.proofs.state.Ledger as L
 use Rattle.ledger.proofs.state.Ledger.Laws as L′
 use Rattle.ledger.proofs.answers.Answer as N

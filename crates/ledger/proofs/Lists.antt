@@ -9,8 +9,7 @@ use lib.ListN.{length, drop, take, getD, set, drop-of-length-le, length-map}
 use lib.Seq.{drop-cons, take-all}
 use Rattle.tariff.proofs.Bools.{and-left, and-right}
 use Rattle.ledger.specs.Ranges.{everyAccount}
-use Rattle.ledger.specs.declared.state.Account.{Account}
-use Rattle.ledger.specs.declared.state.Ledger.{Ledger}
+use Rattle.ledger.specs.Structs.{Account, Ledger}
 
 -- ---- a test of every account
 

@@ -4,15 +4,12 @@ use mathlib.Core.Bool.{true}
 use lib.IntN.{ℤ, pos, negℤ, _+ℤ_}
 use borrow.Author.Tests.{not-false}
 use Rattle.tariff.specs.Amounts.{more, less}
-use Rattle.tariff.specs.declared.amounts.Quantity.{Quantity}
-use Rattle.tariff.specs.declared.months.Month.{Month}
+use Rattle.ledger.specs.Structs.{Account, Change, Month, Quantity}
 use Rattle.tariff.proofs.Laws.{more-value, less-value}
 use Rattle.ledger.specs.Gas.{afterGiving, afterTaking, givingChecks, takingChecks, giving, taking}
 use Rattle.ledger.specs.Panel.{openBank}
 use Rattle.ledger.specs.Ranges.{accountInRange}
 use Rattle.ledger.specs.State.{withBank}
-use Rattle.ledger.specs.declared.state.Account.{Account}
-use Rattle.ledger.specs.declared.changes.Change.{Change}
 use Rattle.ledger.proofs.Verdicts.{clear}
 use Rattle.ledger.proofs.ClosedAccounts.{openOwed, openDays, grows}
 

@@ -18,12 +18,7 @@ use Rattle.ledger.specs.Ranges.{accountInRange, everyAccount, inRange}
 use Rattle.ledger.specs.Answers.{quiet, plain, refused, settle}
 use Rattle.ledger.specs.Deliver.{amountUnder}
 use Rattle.ledger.specs.Panel.{openBank, bankOf}
-use Rattle.ledger.specs.declared.state.Account.{Account}
-use Rattle.ledger.specs.declared.state.Ledger.{Ledger}
-use Rattle.ledger.specs.declared.entries.Entry.{Entry}
-use Rattle.ledger.specs.declared.answers.Answer.{Answer}
-use Rattle.ledger.specs.declared.answers.Report.{Report}
-use Rattle.ledger.specs.declared.answers.Posted.{Posted}
+use Rattle.ledger.specs.Structs.{Account, Answer, Entry, Ledger, Posted, Report}
 use Rattle.ledger.proofs.Lists.{every-set}
 use Rattle.ledger.proofs.ClosedAccounts.{openOwed, openDays, reportMoves, reportDays}
 

@@ -12,7 +12,7 @@ use Rattle.ledger.specs.Kinds as kinds
 use Rattle.ledger.specs.Kinds.{lookup, kindOf}
 use Rattle.ledger.specs.Entries.{termsOf, pricesOf}
 use Rattle.ledger.specs.Forms.{accountTooHigh, someUnits, wordsInRange, wrongTransfer, fieldChecks, fieldNumber}
-use Rattle.ledger.specs.declared.entries.Entry.{Entry}
+use Rattle.ledger.specs.Structs.{Entry}
 use Rattle.ledger.proofs.Verdicts.{clear}
 
 module _ (e : Entry) (h : fieldNumber e ≡ 0) where

@@ -10,7 +10,7 @@ use lib.ListN.{length-map}
 use borrow.Author.Tests.{eq-eqb, ne-eqb, eqb-true, eqb-false, not-false}
 use Rattle.tariff.specs.Dates.{real, lastOfMonth, lastDate, dayAfter}
 use Rattle.tariff.specs.Terms.{termsInRange}
-use Rattle.tariff.specs.declared.terms.Terms.{Terms}
+use Rattle.ledger.specs.Structs.{Account, Entry, Ledger, Report, Terms}
 use Rattle.tariff.proofs.Bools.{and-left, and-right, or-right}
 use Rattle.tariff.proofs.NextDays.{right-days}
 use Rattle.ledger.specs.Checks.{verdict}
@@ -23,10 +23,6 @@ use Rattle.ledger.specs.Kinds.{lookup}
 use Rattle.ledger.specs.Days.{wrongDay}
 use Rattle.ledger.specs.Posting.{admission}
 use Rattle.ledger.specs.Panel.{openBank, bankOf}
-use Rattle.ledger.specs.declared.state.Account.{Account}
-use Rattle.ledger.specs.declared.state.Ledger.{Ledger}
-use Rattle.ledger.specs.declared.entries.Entry.{Entry}
-use Rattle.ledger.specs.declared.answers.Report.{Report}
 use Rattle.ledger.proofs.Verdicts.{clear}
 use Rattle.ledger.proofs.Bounded.{begun-ranged}
 use Rattle.ledger.proofs.Admitted.{is-begun, is-day, is-real}

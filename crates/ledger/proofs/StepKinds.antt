@@ -10,8 +10,7 @@ use lib.ListN.{getD, length-map, List·getD-map}
 use borrow.Author.Tests.{eqb-true, eqb-false, not-false}
 use Rattle.tariff.specs.Amounts.{sum}
 use Rattle.tariff.specs.Terms.{capacityOf}
-use Rattle.tariff.specs.declared.terms.Terms.{Terms}
-use Rattle.tariff.specs.declared.terms.Capacity.{Capacity}
+use Rattle.ledger.specs.Structs.{Account, Capacity, Change, Entry, Ledger, Terms}
 use Rattle.tariff.proofs.Bools.{and-left, and-right, either}
 use Rattle.tariff.proofs.Laws.{sum-value, amount-value}
 use Rattle.ledger.specs.Kinds as kinds
@@ -30,10 +29,6 @@ use Rattle.ledger.specs.Measure.{remeasured, afterMeasure, measureChecks
 use Rattle.ledger.specs.Usage.{metered, afterUsage, usageChecks}
 use Rattle.ledger.specs.Posting.{admission}
 use Rattle.ledger.specs.Panel.{openBank, bankOf}
-use Rattle.ledger.specs.declared.state.Account.{Account}
-use Rattle.ledger.specs.declared.state.Ledger.{Ledger}
-use Rattle.ledger.specs.declared.entries.Entry.{Entry}
-use Rattle.ledger.specs.declared.changes.Change.{Change}
 use Rattle.ledger.proofs.Verdicts.{first, clear}
 use Rattle.ledger.proofs.RightEntries.{a-fits, b-fits, transfer-fits}
 use Rattle.ledger.proofs.Admitted.{is-begun, is-right}

@@ -8,7 +8,7 @@ use lib.Dec.{eqb, ltb, leb}
 use lib.ListN.{getD, take}
 use borrow.Author.Tests.{eqb-true, ne-eqb, ltb-true}
 use Rattle.tariff.specs.Dates.{leap, lengths, monthLength, total}
-use Rattle.tariff.specs.declared.months.Month.{Month}
+use Rattle.tariff.specs.Structs.{Month}
 use Rattle.tariff.proofs.Tables.{allBelow, at-each, each, entry-le}
 use Rattle.tariff.proofs.Results.{choice-le}
 

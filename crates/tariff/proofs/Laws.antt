@@ -8,11 +8,8 @@ use lib.Signed.{leZ}
 use borrow.Author.Tests.{le-leb}
 use lib.IntN.{ℤ, pos, negsuc, _+ℤ_, _-ℤ_, negℤ, +ℤ-idl, +ℤ-idr}
 use Rattle.tariff.specs.Amounts.{nothing, amountOf, sum, more, less, opposite, positivePart, inward, outward, within, size, together, added, withinMills, sizeMills}
-use Rattle.tariff.specs.declared.amounts.Units.{Units}
-use Rattle.tariff.specs.declared.amounts.Quantity.{Quantity}
-use Rattle.tariff.specs.declared.amounts.Mills.{Mills}
+use Rattle.tariff.specs.Structs.{Mills, Quantity, Step, Units}
 use Rattle.tariff.specs.Steps.{settledStep}
-use Rattle.tariff.specs.declared.steps.Step.{Step}
 use Rattle.tariff.proofs.Signed.{size-between}
 
 -- ---- numbers

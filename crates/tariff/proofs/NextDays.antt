@@ -9,8 +9,7 @@ use borrow.Author.Tests.{eqb-true, eqb-false, eq-eqb, ne-eqb, le-leb, leb-true}
 use Rattle.tariff.specs.Months.{sameMonth, december}
 use Rattle.tariff.specs.Dates.{leap, divides, lengths, monthLength, real, isOn, lastOfMonth, lastDate, dayAfter, total, dayNumber, weekday}
 use Rattle.tariff.specs.Calendar.{written, RightDays}
-use Rattle.tariff.specs.declared.months.Month.{Month}
-use Rattle.tariff.specs.declared.dates.Date.{Date}
+use Rattle.tariff.specs.Structs.{Date, Month}
 use Rattle.tariff.proofs.Bools.{and-fails}
 use Rattle.tariff.proofs.Tables.{allBelow, at-each}
 use Rattle.tariff.proofs.Ranges.{date-bounds}

@@ -1,7 +1,7 @@
 -- No percentage of a month is above 102: each table is compared entry by entry.
 use Prim.Native.Nat.{_≤_}
 use Rattle.tariff.specs.Months.{minimum, maximum, mmbq, withdrawalMaximum, withdrawalMinimum}
-use Rattle.tariff.specs.declared.months.Month.{Month}
+use Rattle.tariff.specs.Structs.{Month}
 use Rattle.tariff.proofs.Tables.{entry-le}
 
 pub minimum-le : (m : Month) → minimum m ≤ 102

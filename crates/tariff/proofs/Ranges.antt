@@ -8,10 +8,7 @@ use borrow.Author.Tests.{leb-true}
 use Rattle.tariff.specs.Terms.{termsInRange, mddqOf, bcqOf}
 use Rattle.tariff.specs.Bill.{pricesInRange}
 use Rattle.tariff.specs.Dates.{real, monthLength}
-use Rattle.tariff.specs.declared.amounts.Dth.{Dth}
-use Rattle.tariff.specs.declared.terms.Terms.{Terms}
-use Rattle.tariff.specs.declared.bill.Prices.{Prices}
-use Rattle.tariff.specs.declared.dates.Date.{Date}
+use Rattle.tariff.specs.Structs.{Date, Dth, Prices, Terms}
 use Rattle.tariff.proofs.Bools.{parts}
 
 pub record TermsBounds (t : Terms) : Type 0 where

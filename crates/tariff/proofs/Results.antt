@@ -11,11 +11,7 @@ use Rattle.tariff.specs.Months.{sameMonth, january, march, november, dec
 use Rattle.tariff.specs.Delivery.{retained, daysOfInjection, shareOf}
 use Rattle.tariff.specs.Closing.{carryOf, forfeitOf, withdrawalLimit}
 use Rattle.tariff.specs.Bill.{pricesInRange, cashInCharge, cashOutCredit, atInventoryCost}
-use Rattle.tariff.specs.declared.amounts.Dth.{Dth}
-use Rattle.tariff.specs.declared.amounts.Quantity.{Quantity}
-use Rattle.tariff.specs.declared.amounts.Units.{Units}
-use Rattle.tariff.specs.declared.bill.Prices.{Prices}
-use Rattle.tariff.specs.declared.months.Month.{Month}
+use Rattle.tariff.specs.Structs.{Dth, Month, Prices, Quantity, Units}
 use Rattle.tariff.proofs.Percentages.{withdrawal-maximum-le}
 use Rattle.tariff.proofs.Ranges.{price-bounds}
 use Rattle.tariff.proofs.Signed.{size-naturals, size-product, size-quotient-is}

@@ -7,7 +7,7 @@ use mathlib.Core.List.{List}
 use mathlib.Core.Path.{_≡_}
 use Rattle.archive.specs.Reading.{wrongHeader, rightDirectory, numbersOf, partsOf, checked}
 use Rattle.archive.specs.Entries.{finding, firstRefusal}
-use Rattle.archive.specs.declared.entries.Checked.{Checked}
+use Rattle.archive.specs.Structs.{Checked}
 use Rattle.archive.proofs.check.Statement.{statement}
 use Rattle.archive.proofs.check.Tie as tie
 

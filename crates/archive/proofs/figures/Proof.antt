@@ -5,7 +5,7 @@ use mathlib.Core.List.{List}
 use mathlib.Core.Path.{_≡_}
 use Rattle.ledger.specs.declared.panels.Panel.{Panel}
 use Rattle.ledger.specs.Panel.{panelOf}
-use Rattle.archive.specs.declared.replaying.Replay.{Replay}
+use Rattle.archive.specs.Structs.{Replay}
 use Rattle.archive.specs.Replay.{replayed, figuresOf}
 use Rattle.archive.proofs.figures.Statement.{statement}
 use Rattle.archive.proofs.figures.Tie as tie

@@ -8,8 +8,7 @@ use mathlib.Core.Path.{_≡_}
 use lib.ListN.{length}
 use Rattle.ledger.specs.Entries.{wordAt}
 use Rattle.archive.specs.Reading.{sectionCount, checked, pairAt, nowhere, placeOf}
-use Rattle.archive.specs.declared.entries.Checked.{Checked}
-use Rattle.archive.specs.declared.reading.Place.{Place}
+use Rattle.archive.specs.Structs.{Checked, Place}
 use Rattle.archive.proofs.Pairs.{pair-held}
 use Rattle.archive.proofs.Headers.{Measured}
 use Rattle.archive.proofs.Acceptance.{checked-tells, accepted-sizes}

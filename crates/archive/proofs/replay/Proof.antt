@@ -8,8 +8,7 @@ use Rattle.ledger.specs.Running.{history, run}
 use Rattle.archive.specs.Entries.{entriesOf}
 use Rattle.archive.specs.Reading.{checked}
 use Rattle.archive.specs.Replay.{listIn, entriesIn, countOf, asAccepted, asRefused, replayed}
-use Rattle.archive.specs.declared.entries.Checked.{Checked}
-use Rattle.archive.specs.declared.replaying.Replay.{Replay}
+use Rattle.archive.specs.Structs.{Checked, Replay}
 use Rattle.archive.proofs.replay.Statement.{statement}
 use Rattle.archive.proofs.replay.Tie as tie
 

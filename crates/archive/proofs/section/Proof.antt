@@ -5,7 +5,7 @@ use Prim.Native.Nat.{ℕ, _+_, _-_}
 use mathlib.Core.List.{List}
 use mathlib.Core.Path.{_≡_}
 use lib.ListN.{take, drop}
-use Rattle.archive.specs.declared.reading.Place.{Place}
+use Rattle.archive.specs.Structs.{Place}
 use Rattle.archive.specs.Reading.{placeOf, sectionAt}
 use Rattle.archive.proofs.section.Statement.{statement}
 use Rattle.archive.proofs.section.Tie as tie

@@ -5,7 +5,7 @@ use Prim.Native.Nat.{ℕ}
 use mathlib.Core.List.{List, _++_}
 use mathlib.Core.Path.{_≡_}
 use lib.ListN.{length, drop}
-use Rattle.archive.specs.declared.writing.Written.{Written}
+use Rattle.archive.specs.Structs.{Written}
 use Rattle.archive.specs.Layout.{archiveOf}
 use Rattle.archive.specs.Writing.{written, outputAfter}
 use Rattle.archive.proofs.write.Statement.{statement}

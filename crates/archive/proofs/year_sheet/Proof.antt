@@ -3,7 +3,7 @@ use borrow.Author.Needs.{needs}
 use Prim.Native.Nat.{ℕ}
 use mathlib.Core.List.{List}
 use mathlib.Core.Path.{_≡_, ap, _∙_}
-use Rattle.tariff.specs.declared.amounts.Units.{Units}
+use Rattle.archive.specs.Structs.{Units}
 use Rattle.ledger.specs.State.{fresh}
 use Rattle.archive.specs.Entries.{entriesOf}
 use Rattle.archive.specs.Replay.{listIn, entriesIn}

@@ -7,7 +7,7 @@ use mathlib.Core.Path.{_≡_}
 use lib.ListN.{length}
 use Rattle.ledger.specs.Entries.{entryOf}
 use Rattle.ledger.specs.Forms.{entryNumber, formNumber}
-use Rattle.ledger.specs.declared.entries.Entry.{Entry}
+use Rattle.ledger.specs.Structs.{Entry}
 use Rattle.ledger.proofs.entry_number.Statement.{statement}
 use Rattle.ledger.proofs.entry_number.Tie as tie
 

@@ -11,7 +11,7 @@ use lib.ListN.{length, take, drop}
 use Rattle.ledger.specs.Entries.{wordAt}
 use Rattle.archive.specs.Reading.{pairAt, pairsFrom, pairsOf, partAt, partsOf, numbersIn, numbersOf, sectionCount, rightDirectory}
 use Rattle.archive.specs.Entries.{entriesOf, firstRefusal, finding}
-use Rattle.archive.specs.declared.entries.Checked.{Checked}
+use Rattle.archive.specs.Structs.{Checked}
 use Rattle.archive.proofs.Numbering.{section-refuses, section-passes}
 use Rattle.archive.proofs.Pairs.{Held, pair-held, pairs-none}
 use Rattle.archive.proofs.Parts.{section-bytes}

@@ -8,7 +8,7 @@ use lib.ListN.{length, take, drop}
 use Rattle.ledger.specs.Posting.{posted}
 use Rattle.ledger.specs.Running.{history, run}
 use Rattle.ledger.specs.State.{fresh}
-use Rattle.ledger.specs.declared.state.Ledger.{Ledger}
+use Rattle.archive.specs.Structs.{Ledger}
 use Rattle.ledger.specs.declared.answers.Posted.{Posted}
 use Rattle.archive.specs.Replay.{countOf, asAccepted, asRefused}
 use Rattle.archive.specs.Entries.{entriesOf}

@@ -5,9 +5,8 @@ use Rattle.archive.specs.YearSheet.{grid, noBank, cellAt, bankIn, closes
 use Rattle.archive.specs.Entries.{entriesOf, firstEntries}
 use Rattle.ledger.specs.State.{fresh}
 use Rattle.ledger.specs.Posting.{posted}
-use Rattle.ledger.specs.declared.state.Ledger.{Ledger}
+use Rattle.archive.specs.Structs.{Ledger, Units}
 use Rattle.ledger.specs.declared.answers.Posted.{Posted}
-use Rattle.tariff.specs.declared.amounts.Units.{Units}
 use mathlib.Core.Path.{_≡_, refl, sym, _∙_}
 use mathlib.Core.Bool.{cond}
 use mathlib.Core.List.{List}

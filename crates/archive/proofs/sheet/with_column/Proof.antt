@@ -2,8 +2,7 @@
 use Rattle.archive.proofs.Grids.{filled, filled-none, filled-next, filled-all}
 use Rattle.archive.specs.YearSheet.{grid, cellAt, bankIn}
 use Rattle.ledger.specs.Panel.{bankOf}
-use Rattle.ledger.specs.declared.state.Ledger.{Ledger}
-use Rattle.tariff.specs.declared.amounts.Units.{Units}
+use Rattle.archive.specs.Structs.{Ledger, Units}
 use lib.Dec.{eqb}
 use lib.IntN.{ℤ}
 use lib.ListN.{set, getD}

@@ -4,8 +4,7 @@ use borrow.Author.Tests.{ne-eqb}
 use Prim.Native.Nat.{ℕ}
 use mathlib.Core.Path.{_≡_}
 use Rattle.ledger.specs.Answers.{refused, settle}
-use Rattle.ledger.specs.declared.answers.Posted.{Posted}
-use Rattle.ledger.specs.declared.state.Ledger.{Ledger}
+use Rattle.ledger.specs.Structs.{Ledger, Posted}
 use Rattle.ledger.proofs.answers.settle.Statement.{statement}
 use Rattle.ledger.proofs.answers.settle.Tie as tie
 

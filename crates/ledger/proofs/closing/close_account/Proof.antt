@@ -4,14 +4,10 @@ use borrow.Author.Tests.{eq-eqb, ne-eqb}
 use native.Mathlib.Omega.{arith}
 use mathlib.Core.Bool.{true}
 use mathlib.Core.Path.{_≡_}
-use Rattle.tariff.specs.declared.bill.Prices.{Prices}
-use Rattle.tariff.specs.declared.terms.Terms.{Terms}
+use Rattle.ledger.specs.Structs.{Account, Closed, Entry, Prices, Terms}
 use Rattle.ledger.specs.Closing.{closingOf, dayClosing, leftAlone, monthClosing}
 use Rattle.ledger.specs.Entries.{pricesOf}
 use Rattle.ledger.specs.Kinds.{lookup}
-use Rattle.ledger.specs.declared.closing.Closed.{Closed}
-use Rattle.ledger.specs.declared.entries.Entry.{Entry}
-use Rattle.ledger.specs.declared.state.Account.{Account}
 use Rattle.ledger.proofs.closing.close_account.Statement.{statement}
 use Rattle.ledger.proofs.closing.close_account.Tie as tie
 

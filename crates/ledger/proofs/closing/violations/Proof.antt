@@ -5,11 +5,9 @@ use mathlib.Core.Bool.{Bool}
 use mathlib.Core.Path.{_≡_}
 use native.Mathlib.Omega.{arith}
 use Rattle.tariff.specs.Closing.{breaksV3, breaksV4, breaksV5, breaksV6, breaksV7, breaksV8, maskOf}
-use Rattle.tariff.specs.declared.amounts.Quantity.{Quantity}
-use Rattle.tariff.specs.declared.dates.Date.{Date}
+use Rattle.ledger.specs.Structs.{Account, Date, Quantity}
 use Rattle.ledger.proofs.Bounded.{Bounded, bounded}
 use Rattle.ledger.specs.Closing.{limitOf, violationsOf}
-use Rattle.ledger.specs.declared.state.Account.{Account}
 use Rattle.ledger.proofs.closing.violations.Statement.{statement}
 use Rattle.ledger.proofs.closing.violations.Tie as tie
 

@@ -18,11 +18,7 @@ use Rattle.ledger.specs.State.{accountAt, noMonth, noToday, noTotals, no
 use Rattle.tariff.specs.Dates.{lastOfMonth, onMeasurementDay, real}
 use Rattle.tariff.specs.Terms.{termsInRange}
 use mathlib.Core.List.{List}
-use Rattle.ledger.specs.declared.answers.Report.{Report}
-use Rattle.ledger.specs.declared.state.Ledger.{Ledger}
-use Rattle.ledger.specs.declared.state.Account.{Account}
-use Rattle.ledger.specs.declared.entries.Entry.{Entry}
-use Rattle.ledger.specs.declared.closing.Closed.{Closed}
+use Rattle.ledger.specs.Structs.{Account, Closed, Entry, Ledger, Report}
 use Rattle.ledger.proofs.closings.close_all.Statement.{statement}
 use Rattle.ledger.proofs.closings.close_all.Tie as tie
 

@@ -5,14 +5,11 @@ use mathlib.Core.Bool.{Bool, cond, not}
 use mathlib.Core.Path.{_≡_}
 use Rattle.tariff.proofs.Ranges.{terms-bounds}
 use Rattle.tariff.specs.Delivery.{retained}
-use Rattle.tariff.specs.declared.amounts.Units.{Units}
-use Rattle.tariff.specs.declared.terms.Terms.{Terms}
+use Rattle.ledger.specs.Structs.{Account, Entry, Terms, Units}
 use Rattle.ledger.proofs.RightEntries.{deliver-fits}
 use Rattle.ledger.specs.Checks.{verdict}
 use Rattle.ledger.specs.Deliver.{afterDelivery, amountUnder, deliverChecks, delivered, delivery}
 use Rattle.ledger.specs.Ranges.{accountInRange}
-use Rattle.ledger.specs.declared.entries.Entry.{Entry}
-use Rattle.ledger.specs.declared.state.Account.{Account}
 use Rattle.ledger.proofs.deliver.delivery.Statement.{statement}
 use Rattle.ledger.proofs.deliver.delivery.Tie as tie
 

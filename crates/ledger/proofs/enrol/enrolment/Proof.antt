@@ -5,14 +5,12 @@ use mathlib.Core.Bool.{Bool, cond, not}
 use mathlib.Core.Path.{_≡_}
 use Rattle.tariff.specs.Dates.{firstOfGasYear}
 use Rattle.tariff.specs.Enrol.{openingTooHigh, staysOnFbs}
-use Rattle.tariff.specs.declared.terms.Terms.{Terms}
+use Rattle.ledger.specs.Structs.{Account, Entry, Terms}
 use Rattle.ledger.proofs.RightEntries.{enrol-fits}
 use Rattle.ledger.specs.Checks.{verdict}
 use Rattle.ledger.specs.Enrol.{enrolChecks, enrolled, enrolment, newAccount}
 use Rattle.ledger.specs.Entries.{processOnly, wishes}
 use Rattle.ledger.specs.Ranges.{accountInRange}
-use Rattle.ledger.specs.declared.entries.Entry.{Entry}
-use Rattle.ledger.specs.declared.state.Account.{Account}
 use Rattle.ledger.proofs.enrol.enrolment.Statement.{statement}
 use Rattle.ledger.proofs.enrol.enrolment.Tie as tie
 

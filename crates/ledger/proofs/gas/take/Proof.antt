@@ -6,14 +6,11 @@ use mathlib.Core.Bool.{Bool, cond, not}
 use mathlib.Core.Path.{_≡_}
 use Rattle.tariff.specs.Amounts.{more}
 use Rattle.tariff.specs.Limits.{aboveMaximum}
-use Rattle.tariff.specs.declared.amounts.Quantity.{Quantity}
-use Rattle.tariff.specs.declared.amounts.Units.{Units}
-use Rattle.tariff.specs.declared.months.Month.{Month}
+use Rattle.ledger.specs.Structs.{Account, Month, Quantity, Units}
 use Rattle.ledger.specs.Checks.{verdict}
 use Rattle.ledger.specs.Gas.{afterTaking, takingChecks, taking}
 use Rattle.ledger.specs.Ranges.{accountInRange}
 use Rattle.ledger.specs.State.{withBank}
-use Rattle.ledger.specs.declared.state.Account.{Account}
 use Rattle.ledger.proofs.gas.take.Statement.{statement}
 use Rattle.ledger.proofs.gas.take.Tie as tie
 

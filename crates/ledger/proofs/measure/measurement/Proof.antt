@@ -8,8 +8,7 @@ use Rattle.ledger.proofs.RightEntries.{is-real, measure-fits}
 use Rattle.ledger.specs.Checks.{verdict}
 use Rattle.ledger.specs.Measure.{afterMeasure, measureChecks, measurement, remeasured}
 use Rattle.ledger.specs.Ranges.{accountInRange}
-use Rattle.ledger.specs.declared.entries.Entry.{Entry}
-use Rattle.ledger.specs.declared.state.Account.{Account}
+use Rattle.ledger.specs.Structs.{Account, Entry}
 use Rattle.ledger.proofs.measure.measurement.Statement.{statement}
 use Rattle.ledger.proofs.measure.measurement.Tie as tie
 

@@ -7,14 +7,12 @@ use lib.Dec.{eqb}
 use Rattle.ledger.proofs.Admitted.{admission-own, admission-standing, own-right}
 use Rattle.ledger.proofs.RightEntries.{is-real}
 use Rattle.tariff.specs.Dates.{real, sameDate}
-use Rattle.tariff.specs.declared.dates.Date.{Date}
+use Rattle.ledger.specs.Structs.{Date, Entry, Ledger}
 use Rattle.ledger.specs.Checks.{verdict}
 use Rattle.ledger.specs.Forms.{entryNumber}
 use Rattle.ledger.specs.Ranges.{inRange}
 use Rattle.ledger.specs.Days.{wrongDay}
 use Rattle.ledger.specs.Posting.{admission, standingChecks}
-use Rattle.ledger.specs.declared.state.Ledger.{Ledger}
-use Rattle.ledger.specs.declared.entries.Entry.{Entry}
 use Rattle.ledger.proofs.postings.admission.Statement.{statement}
 use Rattle.ledger.proofs.postings.admission.Tie as tie
 

@@ -8,9 +8,7 @@ use Rattle.ledger.specs.Answers.{settle}
 use Rattle.ledger.specs.Checks.{verdict}
 use Rattle.ledger.specs.Ranges.{inRange}
 use Rattle.ledger.specs.Terms.{postTerms, termsChecks, termsNext}
-use Rattle.ledger.specs.declared.answers.Posted.{Posted}
-use Rattle.ledger.specs.declared.entries.Entry.{Entry}
-use Rattle.ledger.specs.declared.state.Ledger.{Ledger}
+use Rattle.ledger.specs.Structs.{Entry, Ledger, Posted}
 use Rattle.ledger.proofs.terms.post_terms.Statement.{statement}
 use Rattle.ledger.proofs.terms.post_terms.Tie as tie
 

@@ -9,9 +9,7 @@ use Rattle.ledger.specs.Entries.{companySells}
 use Rattle.ledger.specs.Gas.{giving, taking}
 use Rattle.ledger.specs.State.{withMonth, withTotals}
 use Rattle.ledger.specs.Trade.{booked, traded}
-use Rattle.ledger.specs.declared.changes.Change.{Change}
-use Rattle.ledger.specs.declared.entries.Entry.{Entry}
-use Rattle.ledger.specs.declared.state.Account.{Account}
+use Rattle.ledger.specs.Structs.{Account, Change, Entry}
 use Rattle.ledger.proofs.trade.traded.Statement.{statement}
 use Rattle.ledger.proofs.trade.traded.Tie as tie
 

@@ -6,8 +6,7 @@ use mathlib.Core.Path.{_≡_}
 use Rattle.ledger.specs.Checks.{verdict}
 use Rattle.ledger.specs.Ranges.{accountInRange}
 use Rattle.ledger.specs.Usage.{afterUsage, metered, usage, usageChecks}
-use Rattle.ledger.specs.declared.entries.Entry.{Entry}
-use Rattle.ledger.specs.declared.state.Account.{Account}
+use Rattle.ledger.specs.Structs.{Account, Entry}
 use Rattle.ledger.proofs.usage.usage.Statement.{statement}
 use Rattle.ledger.proofs.usage.usage.Tie as tie
 

@@ -9,10 +9,7 @@ use Rattle.tariff.proofs.Sizes.{size-nothing}
 use Rattle.tariff.specs.Amounts.{gap, nothing, percent}
 use Rattle.tariff.specs.Closing.{breaksV7, breaksV8, cashOf}
 use Rattle.tariff.specs.Months.{maximum, minimum}
-use Rattle.tariff.specs.declared.amounts.Dth.{Dth}
-use Rattle.tariff.specs.declared.amounts.Quantity.{Quantity}
-use Rattle.tariff.specs.declared.amounts.Units.{Units}
-use Rattle.tariff.specs.declared.months.Month.{Month}
+use Rattle.tariff.specs.Structs.{Dth, Month, Quantity, Units}
 use Rattle.tariff.proofs.closing.cash.Statement.{statement}
 use Rattle.tariff.proofs.closing.cash.Tie as tie
 

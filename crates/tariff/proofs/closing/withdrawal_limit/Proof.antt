@@ -7,7 +7,7 @@ use Rattle.tariff.proofs.Results.{and-bound, limit-le}
 use Rattle.tariff.specs.Amounts.{percent}
 use Rattle.tariff.specs.Closing.{withdrawalLimit}
 use Rattle.tariff.specs.Months.{withdrawalMaximum}
-use Rattle.tariff.specs.declared.amounts.Quantity.{Quantity}
+use Rattle.tariff.specs.Structs.{Quantity}
 use Rattle.tariff.proofs.closing.withdrawal_limit.Statement.{statement}
 use Rattle.tariff.proofs.closing.withdrawal_limit.Tie as tie
 

@@ -5,7 +5,7 @@ use mathlib.Core.Path.{_≡_, _∙_, sym}
 use borrow.Author.Needs.{needs}
 use Rattle.tariff.proofs.Calendar.{length-by-turns, lengths-are}
 use Rattle.tariff.specs.Dates.{leap, monthLength}
-use Rattle.tariff.specs.declared.months.Month.{Month}
+use Rattle.tariff.specs.Structs.{Month}
 use Rattle.tariff.proofs.dates.month_length.Statement.{statement}
 use Rattle.tariff.proofs.dates.month_length.Tie as tie
 

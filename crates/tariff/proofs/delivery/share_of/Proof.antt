@@ -7,8 +7,7 @@ use borrow.Author.Needs.{needs}
 use Rattle.tariff.proofs.Results.{and-bound, share-le}
 use Rattle.tariff.specs.Amounts.{below, percent}
 use Rattle.tariff.specs.Delivery.{shareOf}
-use Rattle.tariff.specs.declared.amounts.Dth.{Dth}
-use Rattle.tariff.specs.declared.amounts.Quantity.{Quantity}
+use Rattle.tariff.specs.Structs.{Dth, Quantity}
 use Rattle.tariff.proofs.delivery.share_of.Statement.{statement}
 use Rattle.tariff.proofs.delivery.share_of.Tie as tie
 

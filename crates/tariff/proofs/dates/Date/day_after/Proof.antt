@@ -8,7 +8,7 @@ use Rattle.tariff.proofs.Calendar.{month-length-le}
 use Rattle.tariff.proofs.Ranges.{DateBounds, date-bounds}
 use Rattle.tariff.specs.Dates.{dayAfter, lastOfMonth, monthLength}
 use Rattle.tariff.specs.Months.{december, sameMonth}
-use Rattle.tariff.specs.declared.dates.Date.{Date}
+use Rattle.tariff.specs.Structs.{Date}
 use Rattle.tariff.proofs.dates.Date.day_after.Statement.{statement}
 use Rattle.tariff.proofs.dates.Date.day_after.Tie as tie
 

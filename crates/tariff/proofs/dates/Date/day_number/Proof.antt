@@ -7,7 +7,7 @@ use lib.Dec.{ltb}
 use borrow.Author.Needs.{needs}
 use Rattle.tariff.proofs.Calendar.{days-before, short-le}
 use Rattle.tariff.specs.Dates.{dayNumber, leap}
-use Rattle.tariff.specs.declared.dates.Date.{Date}
+use Rattle.tariff.specs.Structs.{Date}
 use Rattle.tariff.proofs.dates.Date.day_number.Statement.{statement}
 use Rattle.tariff.proofs.dates.Date.day_number.Tie as tie
 

@@ -5,7 +5,7 @@ use lib.Dec.{leb}
 use borrow.Author.Tests.{leb-true, not-false, not-true}
 use Rattle.tariff.proofs.Bools.{parts}
 use Rattle.tariff.specs.Dates.{real}
-use Rattle.tariff.specs.declared.dates.Date.{Date}
+use Rattle.tariff.specs.Structs.{Date}
 use Rattle.tariff.proofs.dates.Date.real.Statement.{statement}
 use Rattle.tariff.proofs.dates.Date.real.Tie as tie
 

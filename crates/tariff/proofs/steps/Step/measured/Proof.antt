@@ -4,7 +4,7 @@ use mathlib.Core.Bool.{cond}
 use mathlib.Core.Path.{_≡_}
 use borrow.Author.Needs.{needs}
 use Rattle.tariff.specs.Steps.{crosses, isOver, isUnder, measured, stepOf}
-use Rattle.tariff.specs.declared.steps.Step.{Step}
+use Rattle.tariff.specs.Structs.{Step}
 use Rattle.tariff.proofs.steps.Step.measured.Statement.{statement}
 use Rattle.tariff.proofs.steps.Step.measured.Tie as tie
 

@@ -7,7 +7,7 @@ use lib.Dec.{leb}
 use borrow.Author.Tests.{leb-true, not-false, not-true}
 use Rattle.tariff.proofs.Bools.{parts}
 use Rattle.tariff.specs.Terms.{termsInRange}
-use Rattle.tariff.specs.declared.terms.Terms.{Terms}
+use Rattle.tariff.specs.Structs.{Terms}
 use Rattle.tariff.proofs.terms.Terms.in_range.Statement.{statement}
 use Rattle.tariff.proofs.terms.Terms.in_range.Tie as tie
 
