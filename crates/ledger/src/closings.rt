@@ -1,8 +1,7 @@
 // CLOSE DAY and CLOSE MONTH, of all accounts together.
 ghost use mathlib.Core.Path.{_≡_};
-ghost use Prim.Native.Nat.{_≤_};
 ghost use Rattle.tariff.specs.Dates.{lastOfMonth, onMeasurementDay};
-ghost use Rattle.ledger.specs.Kinds.{CLOSE-DAY};
+ghost use Rattle.ledger.specs.Kinds.{TERMS};
 ghost use Rattle.ledger.specs.Ranges.{everyAccount};
 ghost use Rattle.ledger.specs.Posting.{admission};
 ghost use Rattle.ledger.specs.Closing.{staysInRange, ready};
@@ -28,7 +27,7 @@ struct Closings {
 
 // An account that is not open stays as it is, and has nothing to report.
 fn close_all(l: Ledger, e: Entry) -> Closings
-    requires { ⌜ (admission l e ≡ 0) × (CLOSE-DAY ≤ e .kind) ⌝ }
+    requires { ⌜ (admission l e ≡ 0) × (e .kind ≡ TERMS → ⊥) ⌝ }
     ensures closed { λ r. ⌜ (r .ledger ≡ closed l e .ledger) × (r .reports ≡ closed l e .answer .reports) ⌝ }
     ensures complete { λ r. ⌜ r .complete ≡ everyAccount (ready (lastOfMonth (e .date)) (onMeasurementDay (e .date))) (l .accounts) ⌝ }
     ensures fits { λ r. ⌜ r .fits ≡ everyAccount (staysInRange (l .terms) e) (l .accounts) ⌝ }
@@ -70,7 +69,7 @@ fn close_all(l: Ledger, e: Entry) -> Closings
 
 // What is closed is a copy, which counts only where every account had what the closing asks for (docs/DECISIONS.md, 88).
 pub fn post_closing(l: Ledger, e: Entry) -> Posted
-    requires { ⌜ (admission l e ≡ 0) × (CLOSE-DAY ≤ e .kind) ⌝ }
+    requires { ⌜ (admission l e ≡ 0) × (e .kind ≡ TERMS → ⊥) ⌝ }
     ensures { λ r. ⌜ r ≡ postClosing l e ⌝ }
 {
     let closed = close_all(l, e);

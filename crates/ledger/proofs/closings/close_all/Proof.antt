@@ -111,7 +111,7 @@ module _ (s : tie.Start Inv-loop μ-loop) where
   in-force : termsInRange (s .args .t1 .terms) ≡ true
   in-force =
       begun-ranged (s .args .t1) (is-ranged (s .args .t1) (s .args .e) (s .pre .0))
-      (is-begun (s .args .t1) (s .args .e) (s .pre .0) (λ z. omega (arith, z, s .pre .1))) .1
+      (is-begun (s .args .t1) (s .args .e) (s .pre .0) (s .pre .1)) .1
 
   ranged : (i : ℕ) → i < 16 → accountInRange (accountAt (s .args .t1) i) ≡ true
   ranged i h = account-ranged (s .args .t1) i sixteen h (is-ranged (s .args .t1) (s .args .e) (s .pre .0))

@@ -11,7 +11,7 @@ use Rattle.ledger.proofs.postings.post_several.Tie as tie
 post-closing-requires : tie.Need-post-closing-requires
 post-closing-requires c κs =
     let s : tie.Start = search in
-    (s .pre, ⊎-elim (λ k. omega (arith, k .keys3)) (λ k. omega (arith, k .keys4)) (c .match .came))
+    (s .pre, ⊎-elim (λ k z. omega (arith, z, k .keys3)) (λ k z. omega (arith, z, k .keys4)) (c .match .came))
 
 returns-4 : tie.Need-returns-4
 unfolding postSeveral lookup
