@@ -157,6 +157,10 @@ def several_at_once(checks, folder, sample):
 
 def main():
     work, sample = sys.argv[1:]
+    # A shell's job in the background has two of them ignored, and would hand that on.
+    for number in SIGNALS:
+        if number != signal.SIGKILL:
+            signal.signal(number, signal.SIG_DFL)
     checks = Checks("output")
     folder = Folder(checks, f"{work}/output")
     killed_while_waiting(checks, folder)
