@@ -78,8 +78,9 @@ fn long_date(date: Day) -> String {
 }
 
 pub fn foot() -> String {
-    "<footer>\n<p>The ledger counts gas in hundredths of a Dth, this page shows Dth; MDQ, MDDQ and BCQ are whole Dth; money is counted \
-     in thousandths of a dollar. The minimum and maximum of a month are percentages of the BCQ in force on the day.</p>\n\
+    "<footer>\n<p>The ledger counts gas in hundredths of a Dth, this page shows Dth; MDQ, MDDQ and BCQ are whole Dth; \
+     money is counted in thousandths of a dollar. The minimum and maximum of a month are percentages \
+     of the BCQ in force on the day.</p>\n\
      <p>Every figure comes of the archive’s entries, posted in file order to a fresh ledger. To check them: \
      <code>efbs statement</code> prints the sums above, and <code>efbs journal</code> writes every accepted posting for a \
      plain-text accounting program to add up.</p>\n</footer>\n"
