@@ -1,5 +1,5 @@
 -- R45 to R57: what a closing finds in an account, and what it does to it: violations, cash, carry and forfeit.
-use Rattle.tariff.specs.Vocabulary.{ℕ, _+_, _-_, Bool, cond, not, _&&_, _||_}
+use Rattle.tariff.specs.Vocabulary.{ℕ, _+_, _-_, min, Bool, cond, not, _&&_, _||_}
 use Rattle.tariff.specs.Structs.{Date, Dth, Month, Quantity, Units}
 use Rattle.tariff.specs.Amounts.{nothing, inward, opposite, gap, above, below, less, percent}
 use Rattle.tariff.specs.Months.{sameMonth, january, february, march, june, august, minimum, maximum, mmbq, withdrawalMaximum, withdrawalMinimum, winter}
@@ -70,3 +70,7 @@ forfeitOf m bcq bank =
           (cond (sameMonth m march) (excessOver bank (percent 25 bcq) .0)
           0);
     }
+
+-- R86: under the first rule all of the excess is forfeited, under the new one no more of it than the storage provider confiscated.
+unfoldable pub forfeitUnder : Bool → Quantity → Quantity → Quantity
+forfeitUnder new confiscated excess = record { 0 = cond new (min (confiscated .0) (excess .0)) (excess .0) }

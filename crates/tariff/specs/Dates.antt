@@ -1,7 +1,7 @@
 -- R5 to R9: dates in the Gregorian calendar, 2000 to 2099.
 use Rattle.tariff.specs.Vocabulary.{ℕ, _+_, _-_, _*_, _/_, _%_, Bool, cond, not, _&&_, _||_, eqb, leb, ltb, List, [], _∷_, getD, take}
 use Rattle.tariff.specs.Structs.{Date, Month}
-use Rattle.tariff.specs.Months.{sameMonth, april, december}
+use Rattle.tariff.specs.Months.{sameMonth, january, march, april, december}
 
 -- R5: k divides n.
 unfoldable pub divides : ℕ → ℕ → Bool
@@ -83,3 +83,7 @@ onMeasurementDay d = eqb (d .day) (measurementDay (d .year) (d .month))
 -- R9: the day that begins a gas year.
 unfoldable pub firstOfGasYear : Date → Bool
 firstOfGasYear d = isOn april 1 d
+
+-- R85: the days whose closing forfeits gas (R57), on which the storage provider tells what it confiscated.
+unfoldable pub confiscationDay : Date → Bool
+confiscationDay d = isOn january 31 d || isOn march 31 d

@@ -4,13 +4,14 @@ ghost use mathlib.Core.Bool.{true, cond};
 ghost use Prim.Native.Nat.{_+_, _≤_};
 ghost use Rattle.tariff.specs.Amounts.{size};
 ghost use Rattle.tariff.specs.Dates.{real};
-ghost use Rattle.tariff.specs.Closing.{breaksV3, withdrawalLimit, breaksV4, breaksV5, breaksV6, breaksV7, breaksV8, cashOf, endsExcuse, carryOf, excessOver, forfeitOf, maskOf};
+ghost use Rattle.tariff.specs.Closing.{breaksV3, withdrawalLimit, breaksV4, breaksV5, breaksV6, breaksV7, breaksV8, cashOf, endsExcuse, carryOf, excessOver, forfeitOf, forfeitUnder, maskOf};
 ghost use Rattle.tariff.specs.Bounds.{mostBank, mostBcq};
 use crate::amounts::Dth;
 use crate::amounts::Quantity;
 use crate::amounts::Units;
 use crate::choice::choose;
 use crate::choice::larger;
+use crate::choice::smaller;
 use crate::dates::Date;
 use crate::months::Month;
 
@@ -125,6 +126,14 @@ pub fn forfeit(m: Month, bcq: Dth, bank: Units) -> Quantity
         in_january.0,
         choose(m.is(Month::MARCH), in_march.0, 0),
     ))
+}
+
+// How much of it is taken: all under the first rule, under the new one no more than the storage provider confiscated.
+pub fn forfeit_under(is_new: bool, confiscated: Quantity, excess: Quantity) -> Quantity
+    ensures { λ r. ⌜ r ≡ forfeitUnder «is_new» confiscated excess ⌝ }
+    ensures bounded { λ r. ⌜ r .0 ≤ excess .0 ⌝ }
+{
+    Quantity(choose(is_new, smaller(confiscated.0, excess.0), excess.0))
 }
 
 fn bit(broken: bool, value: u64) -> u64

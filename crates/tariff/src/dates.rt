@@ -2,7 +2,7 @@
 ghost use mathlib.Core.Path.{_≡_};
 ghost use mathlib.Core.Bool.{true, false};
 ghost use Prim.Native.Nat.{_+_, _<_, _≤_};
-ghost use Rattle.tariff.specs.Dates.{leap, monthLength, real, sameDate, isOn, firstOfGasYear, lastOfMonth, lastDate, dayAfter, dayNumber, weekday, measurementDay, onMeasurementDay};
+ghost use Rattle.tariff.specs.Dates.{leap, monthLength, real, sameDate, isOn, firstOfGasYear, confiscationDay, lastOfMonth, lastDate, dayAfter, dayNumber, weekday, measurementDay, onMeasurementDay};
 use crate::choice::choose;
 use crate::months::Month;
 
@@ -68,6 +68,15 @@ impl Date {
         ensures { λ r. ⌜ r ≡ firstOfGasYear self ⌝ }
     {
         self.is_on(Month::APRIL, 1)
+    }
+
+    // January 31 and March 31.
+    pub fn on_confiscation_day(self) -> bool
+        ensures { λ r. ⌜ r ≡ confiscationDay self ⌝ }
+    {
+        let in_january = self.is_on(Month::JANUARY, 31);
+        let in_march = self.is_on(Month::MARCH, 31);
+        in_january | in_march
     }
 
     pub fn last_of_month(self) -> bool

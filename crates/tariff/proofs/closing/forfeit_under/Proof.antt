@@ -1,0 +1,27 @@
+-- The smaller of two numbers is never above the second, and neither is the second itself.
+use Prim.Native.Nat.{_≤_, min}
+use mathlib.Core.Bool.{cond}
+use mathlib.Core.Path.{_≡_}
+use native.Mathlib.Omega.{arith}
+use borrow.Author.Needs.{needs}
+use Rattle.tariff.proofs.Results.{and-bound, choice-le}
+use Rattle.tariff.specs.Closing.{forfeitUnder}
+use Rattle.tariff.specs.Structs.{Quantity}
+use Rattle.tariff.proofs.closing.forfeit_under.Statement.{statement}
+use Rattle.tariff.proofs.closing.forfeit_under.Tie as tie
+
+-- the answer, from what the calls give
+answer : (new confiscated excess less taken : _) → less ≡ min (confiscated .0) (excess .0) → taken ≡ cond new less (excess .0)
+    → record { 0 = taken } ≡ forfeitUnder new confiscated excess
+unfolding forfeitUnder
+answer new confiscated excess less taken p q = cc
+
+part-le : (new : _) (confiscated excess : Quantity) → forfeitUnder new confiscated excess .0 ≤ excess .0
+unfolding forfeitUnder
+part-le new confiscated excess = choice-le (excess .0) new (min (confiscated .0) (excess .0)) (excess .0) (omega arith) (omega arith)
+
+returns : tie.Need-returns
+returns c = let s : tie.Start = search in and-bound (λ taken. taken .0 ≤ s .args .excess .0) (search answer) (search part-le)
+
+pub forfeit-under-spec : {M : Type 1} → statement M
+forfeit-under-spec = tie.close (tie.spec (search needs) (search needs) returns)
