@@ -6,7 +6,7 @@ use lib.Dec.{eqb, leb}
 use borrow.Author.Tests.{eqb-true, eq-eqb, ne-eqb, not-false}
 use Rattle.tariff.specs.Dates.{real}
 use Rattle.ledger.specs.Checks.{verdict}
-use Rattle.ledger.specs.Kinds.{kindOf}
+use Rattle.ledger.specs.Kinds.{kindOf, version}
 use Rattle.ledger.specs.Forms.{fieldChecks, fieldNumber, entryChecks, entryNumber}
 use Rattle.ledger.specs.Ranges.{inRange}
 use Rattle.ledger.specs.Days.{wrongDay}
@@ -16,34 +16,37 @@ use Rattle.ledger.proofs.RightEntries as right
 use Rattle.ledger.proofs.Verdicts.{first, clear, verdict-append}
 
 module _ (l : Ledger) (e : Entry) where
-  admission-by : admission l e ≡ cond (eqb (entryNumber e) 0) (verdict (standingChecks l e)) (entryNumber e)
+  abbrev own : ℕ
+  own = entryNumber (l .«is_new») e
+
+  admission-by : admission l e ≡ cond (eqb own 0) (verdict (standingChecks l e)) own
   unfolding admission entryNumber entryChecks fieldChecks
-  admission-by = verdict-append (entryChecks e) (standingChecks l e) refl
+  admission-by = verdict-append (entryChecks (l .«is_new») e) (standingChecks l e) refl
 
   -- an entry wrong in itself is refused for that
-  pub admission-own : (entryNumber e ≡ 0 → ⊥) → admission l e ≡ entryNumber e
-  admission-own wrong = rw (admission-by, ne-eqb (entryNumber e) 0 wrong)
+  pub admission-own : (own ≡ 0 → ⊥) → admission l e ≡ own
+  admission-own wrong = rw (admission-by, ne-eqb own 0 wrong)
 
   -- one right in itself is refused for what the ledger says
-  pub admission-standing : entryNumber e ≡ 0 → admission l e ≡ verdict (standingChecks l e)
-  admission-standing own = rw (admission-by, eq-eqb (entryNumber e) 0 own)
+  pub admission-standing : own ≡ 0 → admission l e ≡ verdict (standingChecks l e)
+  admission-standing right = rw (admission-by, eq-eqb own 0 right)
 
   -- one that is not refused is right in itself
-  own-number : admission l e ≡ 0 → entryNumber e ≡ 0
-  own-number h = go (eqb (entryNumber e) 0) (entryNumber e) (verdict (standingChecks l e)) refl (sym admission-by ∙ h)
+  own-number : admission l e ≡ 0 → own ≡ 0
+  own-number h = go (eqb own 0) own (verdict (standingChecks l e)) refl (sym admission-by ∙ h)
     where
       go : (t : Bool) (n m : ℕ) → eqb n 0 ≡ t → cond t m n ≡ 0 → n ≡ 0
       go true n m z q = eqb-true n 0 z
       go false n m z q = q
 
 -- the number of an entry right in itself has none of 2 to 7
-pub own-right : (e : Entry) → entryNumber e ≡ 0 → fieldNumber e ≡ 0
+pub own-right : (new : Bool) (e : Entry) → entryNumber new e ≡ 0 → fieldNumber e ≡ 0
 unfolding entryNumber entryChecks fieldNumber verdict
-own-right e z = first (not (leb (kindOf (e .kind) .since) 1)) 2 (fieldNumber e) refl z .1
+own-right new e z = first (not (leb (kindOf (e .kind) .since) (version new))) 2 (fieldNumber e) refl z .1
 
 module _ (l : Ledger) (e : Entry) (h : admission l e ≡ 0) where
   pub is-right : fieldNumber e ≡ 0
-  is-right = own-right e (own-number l e h)
+  is-right = own-right (l .«is_new») e (own-number l e h)
 
   pub is-real : real (e .date) ≡ true
   is-real = right.is-real e is-right

@@ -7,7 +7,7 @@ use lib.Dec.{eqb}
 use lib.IntN.{ℤ, pos, negℤ, _+ℤ_, _-ℤ_, +ℤ-idr, +ℤ-assoc}
 use lib.ListN.{getD, List·getD-map}
 use Rattle.tariff.specs.Amounts.{inward, outward, sum, less, added}
-use Rattle.ledger.specs.Structs.{Account, Closed, Entry, Ledger, Report, Terms, Units}
+use Rattle.ledger.specs.Structs.{Account, Closed, Entry, Ledger, Quantity, Report, Terms, Units}
 use Rattle.tariff.proofs.Bools.{either}
 use Rattle.tariff.proofs.Laws.{sum-value, less-value, added-value, in-and-out, inward-zero, outward-zero}
 use Rattle.ledger.specs.Entries.{pricesOf}
@@ -67,7 +67,7 @@ pub quiet-mask : quiet .mask ≡ 0
 unfolding quiet
 quiet-mask = refl
 
-module _ (t : Terms) (e : Entry) (a : Account) where
+module _ (new : Bool) (t : Terms) (e : Entry) (a : Account) where
   of-none : Accounted a (leftAlone a)
   unfolding leftAlone quiet openBank
   of-none =
@@ -102,16 +102,19 @@ module _ (t : Terms) (e : Entry) (a : Account) where
   abbrev c : Account
   c = afterDay (e .date) a
 
-  abbrev forfeit : ℤ
-  forfeit = pos (forfeitAt (e .date) t c .0)
+  abbrev taken : Quantity
+  taken = forfeitAt new (e .date) t a
 
-  of-month : a .opened ≡ true → Accounted a (monthClosing (e .date) t (pricesOf e) a)
+  abbrev forfeit : ℤ
+  forfeit = pos (taken .0)
+
+  of-month : a .opened ≡ true → Accounted a (monthClosing new (e .date) t (pricesOf e) a)
   unfolding monthClosing afterMonth monthEnd withCarry withCapacity withMeasure afterDay dayEnd withToday withDays withExcuse withTotals withMonth withBank openBank
   of-month o =
       record {
         bank =
-            grows (a .opened) (less (sum (a .bank) cash) (forfeitAt (e .date) t c) .0) (a .bank .0) (pos (inward cash .0) -ℤ pos (outward cash .0) -ℤ forfeit) o
-            (less-value (sum (a .bank) cash) (forfeitAt (e .date) t c)
+            grows (a .opened) (less (sum (a .bank) cash) taken .0) (a .bank .0) (pos (inward cash .0) -ℤ pos (outward cash .0) -ℤ forfeit) o
+            (less-value (sum (a .bank) cash) taken
             ∙ ap (λ (z : ℤ). z -ℤ forfeit) (sum-value (a .bank) cash ∙ ap (λ (z : ℤ). a .bank .0 +ℤ z) (in-and-out cash))
             ∙ +ℤ-assoc (a .bank .0) (pos (inward cash .0) -ℤ pos (outward cash .0)) (negℤ forfeit));
         owed =
@@ -120,7 +123,7 @@ module _ (t : Terms) (e : Entry) (a : Account) where
         days = more-days o;
       }
 
-  pub accounted : Accounted a (closingOf t e a)
+  pub accounted : Accounted a (closingOf new t e a)
   unfolding closingOf
   accounted =
       either (Accounted a) (a .opened) _ _
@@ -129,24 +132,24 @@ module _ (t : Terms) (e : Entry) (a : Account) where
 
 -- ---- an account of the closed ledger, and what was reported of it
 
-module _ (t : Terms) (e : Entry) where
-  nobody-closed : afterClosing t e nobody ≡ nobody
+module _ (new : Bool) (t : Terms) (e : Entry) where
+  nobody-closed : afterClosing new t e nobody ≡ nobody
   unfolding afterClosing closingOf leftAlone nobody
   nobody-closed = refl
 
-  nobody-reported : reportOf t e nobody ≡ quiet
+  nobody-reported : reportOf new t e nobody ≡ quiet
   unfolding reportOf closingOf leftAlone nobody
   nobody-reported = refl
 
 module _ (l : Ledger) (e : Entry) (i : ℕ) where
-  pub account-closed : accountAt (closed l e .ledger) i ≡ afterClosing (l .terms) e (accountAt l i)
+  pub account-closed : accountAt (closed l e .ledger) i ≡ afterClosing (l .«is_new») (l .terms) e (accountAt l i)
   unfolding accountAt closed
   account-closed =
-      ap (λ (d : Account). getD (map (afterClosing (l .terms) e) (l .accounts)) i d) (sym (nobody-closed (l .terms) e))
-      ∙ List·getD-map (afterClosing (l .terms) e) (l .accounts) i nobody
+      ap (λ (d : Account). getD (map (afterClosing (l .«is_new») (l .terms) e) (l .accounts)) i d) (sym (nobody-closed (l .«is_new») (l .terms) e))
+      ∙ List·getD-map (afterClosing (l .«is_new») (l .terms) e) (l .accounts) i nobody
 
-  pub account-reported : getD (closed l e .answer .reports) i quiet ≡ reportOf (l .terms) e (accountAt l i)
+  pub account-reported : getD (closed l e .answer .reports) i quiet ≡ reportOf (l .«is_new») (l .terms) e (accountAt l i)
   unfolding accountAt closed
   account-reported =
-      ap (λ (d : Report). getD (map (reportOf (l .terms) e) (l .accounts)) i d) (sym (nobody-reported (l .terms) e))
-      ∙ List·getD-map (reportOf (l .terms) e) (l .accounts) i nobody
+      ap (λ (d : Report). getD (map (reportOf (l .«is_new») (l .terms) e) (l .accounts)) i d) (sym (nobody-reported (l .«is_new») (l .terms) e))
+      ∙ List·getD-map (reportOf (l .«is_new») (l .terms) e) (l .accounts) i nobody

@@ -19,6 +19,7 @@ use Rattle.ledger.specs.Transfer.{postTransfer}
 use Rattle.ledger.specs.Trade.{trade}
 use Rattle.ledger.specs.Measure.{measurement}
 use Rattle.ledger.specs.Usage.{usage}
+use Rattle.ledger.specs.Confiscated.{confiscation}
 use Rattle.ledger.specs.Closings.{postClosing, closingChecks, closed}
 use Rattle.ledger.specs.Posting.{admission, postSeveral, changeOf, stored, postKind, postEntry, posted}
 use Rattle.ledger.specs.Structs.{Account, Change, Entry, Ledger}
@@ -26,7 +27,7 @@ use Rattle.ledger.proofs.RightEntries.{a-fits}
 use Rattle.ledger.proofs.Admitted.{is-right}
 use Rattle.ledger.proofs.KindCases.{done, _then_, each}
 use Rattle.ledger.proofs.OneStep.{Sound, Step, step-refused, step-settle}
-use Rattle.ledger.proofs.StepKinds.{takes-terms, takes-enrol, takes-deliver, takes-transfer, takes-trade, takes-measure, takes-usage}
+use Rattle.ledger.proofs.StepKinds.{takes-terms, takes-enrol, takes-deliver, takes-transfer, takes-trade, takes-measure, takes-usage, takes-confiscated}
 use Rattle.ledger.proofs.StepClosing.{step-closed}
 
 module _ (l : Ledger) (b : List ℕ) (s : Sound l) where
@@ -57,7 +58,7 @@ module _ (l : Ledger) (b : List ℕ) (s : Sound l) where
 
   -- and for each kind of one
   step-one : admission l e ≡ 0 → e .a < 16 → Step l b (stored l (e .a) (changeOf (l .terms) old e))
-  unfolding changeOf stored enrolment delivery trade measurement usage
+  unfolding changeOf stored enrolment delivery trade measurement usage confiscation
   step-one h i =
       each (λ (c : Change). Step l b (stored l (e .a) c)) (e .kind) _
       ((λ is. step-settle l b _ _ (takes-enrol l e s h i is))
@@ -65,6 +66,7 @@ module _ (l : Ledger) (b : List ℕ) (s : Sound l) where
       then (λ is. step-settle l b _ _ (takes-trade l e s h i is))
       then (λ is. step-settle l b _ _ (takes-measure l e s h i is))
       then (λ is. step-settle l b _ _ (takes-usage l e s h i is))
+      then (λ is. step-settle l b _ _ (takes-confiscated l e s h i is))
       then done)
       (unfold settle refused in step-refused l b 2 refl)
 

@@ -31,9 +31,9 @@ module _ (bytes : List ℕ) where
   unfolding entryOf byteAt
   month-byte = refl
 
-  pub form-length : formNumber bytes ≡ 0 → length bytes ≡ 32
+  pub form-length : (new : Bool) → formNumber new bytes ≡ 0 → length bytes ≡ 32
   unfolding formNumber
-  form-length h = eqb-true (length bytes) 32 (whole (eqb (length bytes) 32) (entryNumber (entryOf bytes)) h)
+  form-length new h = eqb-true (length bytes) 32 (whole (eqb (length bytes) 32) (entryNumber new (entryOf bytes)) h)
     where
       whole : (b : Bool) (n : ℕ) → cond b n 1 ≡ 0 → b ≡ true
       whole true n h = refl

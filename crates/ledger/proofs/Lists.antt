@@ -40,7 +40,7 @@ module _ (p : Account → Bool) where
 
 -- the ledger with other accounts, and nothing else changed
 abbrev pub withAccounts : Ledger → List Account → Ledger
-withAccounts l xs = record { begun = l .begun; touched = l .touched; date = l .date; terms = l .terms; accounts = xs }
+withAccounts l xs = record { begun = l .begun; touched = l .touched; «is_new» = l .«is_new»; date = l .date; terms = l .terms; accounts = xs }
 
 -- ---- an array that is filled from the front: f of the elements of xs passed, then what ys had
 

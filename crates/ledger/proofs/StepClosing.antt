@@ -37,12 +37,12 @@ or-else true b q = refl
 or-else false b q = q
 
 -- accounts that all stay in range are in range when closed
-closed-ranged : (t : Terms) (e : Entry) (xs : List Account) → everyAccount (staysInRange t e) xs ≡ true → everyAccount accountInRange (map (afterClosing t e) xs) ≡ true
+closed-ranged : (new : Bool) (t : Terms) (e : Entry) (xs : List Account) → everyAccount (staysInRange new t e) xs ≡ true → everyAccount accountInRange (map (afterClosing new t e) xs) ≡ true
 unfolding everyAccount staysInRange afterClosing
-closed-ranged t e [] h = refl
-closed-ranged t e (x ∷ xs) h =
-    rw (and-right (accountInRange (closingOf t e x .day)) (accountInRange (closingOf t e x .account)) (and-left (staysInRange t e x) (everyAccount (staysInRange t e) xs) h))
-    (closed-ranged t e xs (and-right (staysInRange t e x) (everyAccount (staysInRange t e) xs) h))
+closed-ranged new t e [] h = refl
+closed-ranged new t e (x ∷ xs) h =
+    rw (and-right (accountInRange (closingOf new t e x .day)) (accountInRange (closingOf new t e x .account)) (and-left (staysInRange new t e x) (everyAccount (staysInRange new t e) xs) h))
+    (closed-ranged new t e xs (and-right (staysInRange new t e x) (everyAccount (staysInRange new t e) xs) h))
 
 module _ (l : Ledger) (e : Entry) (s : Sound l) (h : admission l e ≡ 0) (c : 8 ≤ e .kind) (d : e .kind ≤ 9) where
   -- no closing is of another kind
@@ -59,15 +59,15 @@ module _ (l : Ledger) (e : Entry) (s : Sound l) (h : admission l e ≡ 0) (c : 8
   begun : l .begun ≡ true
   begun = is-begun l e h (λ z. omega arith)
 
-  report-is : (i : ℕ) → reportAt (e .kind) (closed l e .answer) i ≡ closingOf (l .terms) e (accountAt l i) .report
+  report-is : (i : ℕ) → reportAt (e .kind) (closed l e .answer) i ≡ closingOf (l .«is_new») (l .terms) e (accountAt l i) .report
   unfolding reportOf
   report-is i = rw is-closing (account-reported l e i)
 
-  after-is : (i : ℕ) → accountAt (closed l e .ledger) i ≡ closingOf (l .terms) e (accountAt l i) .account
+  after-is : (i : ℕ) → accountAt (closed l e .ledger) i ≡ closingOf (l .«is_new») (l .terms) e (accountAt l i) .account
   unfolding afterClosing
   after-is i = account-closed l e i
 
-  gain-is : (i : ℕ) → gainAt (e .kind) l e (closed l e .answer) i ≡ reportMoves (closingOf (l .terms) e (accountAt l i) .report)
+  gain-is : (i : ℕ) → gainAt (e .kind) l e (closed l e .answer) i ≡ reportMoves (closingOf (l .«is_new») (l .terms) e (accountAt l i) .report)
   unfolding reportOf
   gain-is i = rw (isnt 2 (omega arith), isnt 3 (omega arith), isnt 4 (omega arith), isnt 5 (omega arith), is-closing) (ap reportMoves (account-reported l e i))
 
@@ -93,18 +93,18 @@ module _ (l : Ledger) (e : Entry) (s : Sound l) (h : admission l e ≡ 0) (c : 8
   next-ranged : verdict (closingChecks l e) ≡ 0 → inRange (closed l e .ledger) ≡ true
   unfolding inRange closed closingChecks
   next-ranged o =
-      both (not (l .begun) || (real (dayAfter (e .date)) && termsInRange (l .terms))) (everyAccount accountInRange (map (afterClosing (l .terms) e) (l .accounts)))
+      both (not (l .begun) || (real (dayAfter (e .date)) && termsInRange (l .terms))) (everyAccount accountInRange (map (afterClosing (l .«is_new») (l .terms) e) (l .accounts)))
       (or-else (not (l .begun)) (real (dayAfter (e .date)) && termsInRange (l .terms)) (both (real (dayAfter (e .date))) (termsInRange (l .terms)) next-real (begun-ranged l (s .ranged) begun .1)))
-      (closed-ranged (l .terms) e (l .accounts) (not-false (everyAccount (staysInRange (l .terms) e) (l .accounts)) (clear _ refl o 1)))
+      (closed-ranged (l .«is_new») (l .terms) e (l .accounts) (not-false (everyAccount (staysInRange (l .«is_new») (l .terms) e) (l .accounts)) (clear _ refl o 1)))
 
   takes-closing : verdict (closingChecks l e) ≡ 0 → Taken l e (closed l e .answer) (closed l e .ledger)
   unfolding bankOf
   takes-closing o =
       record {
-        sound = record { sized = unfold closed in (length-map (l .accounts) (afterClosing (l .terms) e) ∙ s .sized); ranged = next-ranged o };
-        banks = λ i. ap openBank (after-is i) ∙ accounted (l .terms) e (accountAt l i) .bank ∙ ap (λ (z : ℤ). openBank (accountAt l i) +ℤ z) (sym (gain-is i));
-        debts = λ i. ap openOwed (after-is i) ∙ accounted (l .terms) e (accountAt l i) .owed ∙ ap (λ (r : Report). openOwed (accountAt l i) +ℤ r .bill .0) (sym (report-is i));
-        days = λ i. ap openDays (after-is i) ∙ accounted (l .terms) e (accountAt l i) .days ∙ ap (λ (r : Report). openDays (accountAt l i) +ℤ reportDays r) (sym (report-is i));
+        sound = record { sized = unfold closed in (length-map (l .accounts) (afterClosing (l .«is_new») (l .terms) e) ∙ s .sized); ranged = next-ranged o };
+        banks = λ i. ap openBank (after-is i) ∙ accounted (l .«is_new») (l .terms) e (accountAt l i) .bank ∙ ap (λ (z : ℤ). openBank (accountAt l i) +ℤ z) (sym (gain-is i));
+        debts = λ i. ap openOwed (after-is i) ∙ accounted (l .«is_new») (l .terms) e (accountAt l i) .owed ∙ ap (λ (r : Report). openOwed (accountAt l i) +ℤ r .bill .0) (sym (report-is i));
+        days = λ i. ap openDays (after-is i) ∙ accounted (l .«is_new») (l .terms) e (accountAt l i) .days ∙ ap (λ (r : Report). openDays (accountAt l i) +ℤ reportDays r) (sym (report-is i));
         retainage = keeps-rate ∙ sym (rw (isnt 1 (omega arith)));
         started = λ _. begun;
         parties = λ z. absurd (omega (arith, z));

@@ -27,6 +27,7 @@ use Rattle.ledger.specs.Transfer.{giver, receiver, transferChecks}
 use Rattle.ledger.specs.Trade.{booked, traded}
 use Rattle.ledger.specs.Measure.{remeasured, afterMeasure, measureChecks}
 use Rattle.ledger.specs.Usage.{metered, afterUsage, usageChecks}
+use Rattle.ledger.specs.Confiscated.{afterConfiscation, confiscationChecks}
 use Rattle.ledger.specs.Posting.{admission}
 use Rattle.ledger.specs.Panel.{openBank, bankOf}
 use Rattle.ledger.proofs.Verdicts.{first, clear}
@@ -157,6 +158,16 @@ module _ (l : Ledger) (e : Entry) (s : Sound l) (h : admission l e ≡ 0) where
   takes-usage i is o =
       stores e 7 is refl l (afterUsage old e) (pos 0) refl refl s (begun-before 7 is (λ z. omega (arith, z))) i
       (not-false (accountInRange (afterUsage old e)) (clear _ refl o 2))
+      (sym (+ℤ-idr (openBank old)))
+      refl
+      refl
+      (λ i. sym (either-way (eqb (e .a) i) (pos 0)))
+
+  pub takes-confiscated : e .a < 16 → e .kind ≡ kinds.CONFISCATED → verdict (confiscationChecks old e) ≡ 0 → Taken l e (plain 0) (withAccount l (e .a) (afterConfiscation old e))
+  unfolding confiscationChecks afterConfiscation withToday openBank
+  takes-confiscated i is o =
+      stores e 10 is refl l (afterConfiscation old e) (pos 0) refl refl s (begun-before 10 is (λ z. omega (arith, z))) i
+      (not-false (accountInRange (afterConfiscation old e)) (clear _ refl o 2))
       (sym (+ℤ-idr (openBank old)))
       refl
       refl

@@ -4,7 +4,7 @@ use Rattle.ledger.specs.Structs.{Account, Capacity, Closed, Date, Entry,
 use Rattle.tariff.specs.Amounts.{sum, less, inward, outward, together, added}
 use Rattle.tariff.specs.Terms.{capacityOf}
 use Rattle.tariff.specs.Steps.{settledStep, falls}
-use Rattle.tariff.specs.Closing.{withdrawalLimit, breaksV3, breaksV4, breaksV5, breaksV6, breaksV7, breaksV8, cashOf, endsExcuse, carryOf, forfeitOf, maskOf}
+use Rattle.tariff.specs.Closing.{withdrawalLimit, breaksV3, breaksV4, breaksV5, breaksV6, breaksV7, breaksV8, cashOf, endsExcuse, carryOf, forfeitOf, forfeitUnder, maskOf}
 use Rattle.tariff.specs.Bill.{billOf}
 use Rattle.ledger.specs.Kinds as kinds
 use Rattle.ledger.specs.Entries.{pricesOf}
@@ -64,9 +64,13 @@ billAt t p a = billOf t p (a .capacity .mddq) (a .month .totals)
 unfoldable pub nextCapacity : Terms → Account → Capacity
 nextCapacity t a = capacityOf t (settledStep (a .step) .k)
 
--- R57: the forfeit goes by the BCQ of the new step, so it may grow where the step falls.
-unfoldable pub forfeitAt : Date → Terms → Account → Quantity
-forfeitAt d t a = forfeitOf (d .month) (nextCapacity t a .bcq) (a .bank)
+-- R57: the excess goes by the BCQ of the new step, so it may grow where the step falls, and by the bank after the day's cash.
+unfoldable pub excessAt : Date → Terms → Account → Quantity
+excessAt d t a = forfeitOf (d .month) (nextCapacity t a .bcq) (a .bank)
+
+-- R86: what is forfeited of it, by what the account had on record before the day's part cleared it.
+unfoldable pub forfeitAt : Bool → Date → Terms → Account → Quantity
+forfeitAt new d t a = forfeitUnder new (a .today .confiscation) (excessAt d t (afterDay d a))
 
 -- R44: the account in its new month: carry by the limit that V4 had (R55), new step and capacity and perhaps an excuse (R56), the forfeit gone
 -- from the bank (R57), the bill added to what is owed (R54).
@@ -80,8 +84,8 @@ monthEnd d limit step capacity forfeit bill a =
     (a .excused || falls (a .step))
 
 -- R44: the account after the month's part.
-unfoldable pub afterMonth : Date → Terms → Prices → Account → Account
-afterMonth d t p a = monthEnd d (limitOf d a) (settledStep (a .step)) (nextCapacity t a) (forfeitAt d t a) (billAt t p a) a
+unfoldable pub afterMonth : Date → Terms → Prices → Quantity → Account → Account
+afterMonth d t p forfeit a = monthEnd d (limitOf d a) (settledStep (a .step)) (nextCapacity t a) forfeit (billAt t p a) a
 
 -- ---- an account at a closing: after the day's part, at the end, and its report
 
@@ -91,35 +95,35 @@ dayClosing d a =
     record { day = afterDay d a; account = afterDay d a; report = report (violationsOf d a) (cashAt d a) (record { 0 = 0 }) (record { 0 = pos 0 }) }
 
 -- R59: CLOSE MONTH reports the day's mask and cash, then forfeit and bill.
-unfoldable pub monthClosing : Date → Terms → Prices → Account → Closed
-monthClosing d t p a =
+unfoldable pub monthClosing : Bool → Date → Terms → Prices → Account → Closed
+monthClosing new d t p a =
     record {
       day = afterDay d a;
-      account = afterMonth d t p (afterDay d a);
-      report = report (violationsOf d a) (cashAt d a) (forfeitAt d t (afterDay d a)) (billAt t p (afterDay d a));
+      account = afterMonth d t p (forfeitAt new d t a) (afterDay d a);
+      report = report (violationsOf d a) (cashAt d a) (forfeitAt new d t a) (billAt t p (afterDay d a));
     }
 
 -- R20: an account that no closing touches stays exactly as it is, and zeros are reported of it.
 unfoldable pub leftAlone : Account → Closed
 leftAlone a = record { day = a; account = a; report = quiet }
 
--- R44: what the entry's kind of closing makes of one account; of one that is not open, nothing.
-unfoldable pub closingOf : Terms → Entry → Account → Closed
-closingOf t e a =
+-- R44: what the entry's kind of closing makes of one account; of one that is not open, nothing. Old and new ledgers differ in the forfeit alone.
+unfoldable pub closingOf : Bool → Terms → Entry → Account → Closed
+closingOf new t e a =
     cond (a .opened)
     (kinds.lookup (e .kind)
     ((kinds.CLOSE-DAY, dayClosing (e .date) a)
-    ∷ (kinds.CLOSE-MONTH, monthClosing (e .date) t (pricesOf e) a)
+    ∷ (kinds.CLOSE-MONTH, monthClosing new (e .date) t (pricesOf e) a)
     ∷ [])
     (leftAlone a))
     (leftAlone a)
 
 -- R59: of that the account goes to the ledger, the report to the answer.
-unfoldable pub afterClosing : Terms → Entry → Account → Account
-afterClosing t e a = closingOf t e a .account
+unfoldable pub afterClosing : Bool → Terms → Entry → Account → Account
+afterClosing new t e a = closingOf new t e a .account
 
-unfoldable pub reportOf : Terms → Entry → Account → Report
-reportOf t e a = closingOf t e a .report
+unfoldable pub reportOf : Bool → Terms → Entry → Account → Report
+reportOf new t e a = closingOf new t e a .report
 
 -- ---- what is asked of an account
 
@@ -128,5 +132,5 @@ unfoldable pub ready : Bool → Bool → Account → Bool
 ready ends reads a = not (a .opened) || (a .today .delivered && (not reads || a .month .measured) && (not ends || a .month .metered))
 
 -- R58: also the account after the day's part is asked, as the month's end would clear a total that had grown too large.
-unfoldable pub staysInRange : Terms → Entry → Account → Bool
-staysInRange t e a = accountInRange (closingOf t e a .day) && accountInRange (closingOf t e a .account)
+unfoldable pub staysInRange : Bool → Terms → Entry → Account → Bool
+staysInRange new t e a = accountInRange (closingOf new t e a .day) && accountInRange (closingOf new t e a .account)

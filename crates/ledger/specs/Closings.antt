@@ -12,15 +12,15 @@ use Rattle.ledger.specs.Closing.{ready, staysInRange, afterClosing, repo
 unfoldable pub closingChecks : Ledger → Entry → List Check
 closingChecks l e =
     (not (everyAccount (ready (lastOfMonth (e .date)) (onMeasurementDay (e .date))) (l .accounts)), 27)
-    ∷ (not (everyAccount (staysInRange (l .terms) e) (l .accounts)), 29)
+    ∷ (not (everyAccount (staysInRange (l .«is_new») (l .terms) e) (l .accounts)), 29)
     ∷ []
 
 -- R59: sixteen reports, and the next day, on which nothing has been accepted yet.
 unfoldable pub closed : Ledger → Entry → Posted
 closed l e =
     record {
-      answer = record { number = 0; reports = map (reportOf (l .terms) e) (l .accounts) };
-      ledger = ledger (l .begun) false (dayAfter (e .date)) (l .terms) (map (afterClosing (l .terms) e) (l .accounts));
+      answer = record { number = 0; reports = map (reportOf (l .«is_new») (l .terms) e) (l .accounts) };
+      ledger = ledger (l .begun) false (l .«is_new») (dayAfter (e .date)) (l .terms) (map (afterClosing (l .«is_new») (l .terms) e) (l .accounts));
     }
 
 -- R58: a single account can refuse the closing, and then none is closed.

@@ -22,6 +22,8 @@ deliveredToday m a amount backCast =
       delivered = true;
       v1 = breaksV1 m (a .capacity .bcq) amount;
       v2 = breaksV2 (shareOf (a .bank) (a .capacity .bcq) backCast (a .mdq)) (a .capacity .mddq) amount;
+      confiscated = a .today .confiscated;
+      confiscation = a .today .confiscation;
     }
 
 -- R35: bank and net move by the same amount.

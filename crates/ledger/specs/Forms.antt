@@ -43,6 +43,7 @@ wordsInRange e =
     ∷ (kinds.USAGE, leb (e .w1) mostMcf)
     ∷ (kinds.CLOSE-DAY, true)
     ∷ (kinds.CLOSE-MONTH, pricesInRange (pricesOf e))
+    ∷ (kinds.CONFISCATED, leb (e .w1) mostUnits)
     ∷ [])
     false
 
@@ -63,14 +64,14 @@ fieldChecks e =
 unfoldable pub fieldNumber : Entry → ℕ
 fieldNumber e = verdict (fieldChecks e)
 
--- R15: number 2 comes before them, as they ask what the kind uses.
-unfoldable pub entryChecks : Entry → List Check
-entryChecks e = (not (leb (kinds.kindOf (e .kind) .since) 1), 2) ∷ fieldChecks e
+-- R15: number 2 comes before them, as they ask what the kind uses. A kind of the new rules is none in an old ledger or archive (R84).
+unfoldable pub entryChecks : Bool → Entry → List Check
+entryChecks new e = (not (leb (kinds.kindOf (e .kind) .since) (kinds.version new)), 2) ∷ fieldChecks e
 
 -- R15: the number of 32 bytes: 0, or 2 to 7.
-unfoldable pub entryNumber : Entry → ℕ
-entryNumber e = verdict (entryChecks e)
+unfoldable pub entryNumber : Bool → Entry → ℕ
+entryNumber new e = verdict (entryChecks new e)
 
 -- R15: the number of bytes of any length: 0, or 1 to 7.
-unfoldable pub formNumber : List ℕ → ℕ
-formNumber bytes = cond (eqb (length bytes) 32) (entryNumber (entryOf bytes)) 1
+unfoldable pub formNumber : Bool → List ℕ → ℕ
+formNumber new bytes = cond (eqb (length bytes) 32) (entryNumber new (entryOf bytes)) 1

@@ -1,8 +1,8 @@
 -- The kinds of entries: their numbers, and one table of what each uses.
-use Rattle.tariff.specs.Vocabulary.{ℕ, cond, eqb, List, [], _∷_}
+use Rattle.tariff.specs.Vocabulary.{ℕ, Bool, cond, eqb, List, [], _∷_}
 use Rattle.ledger.specs.Structs.{Kind}
 
--- R12: the nine kinds, by the number in an entry's first byte.
+-- R12 and R85: the ten kinds, by the number in an entry's first byte.
 abbrev pub TERMS : ℕ
 TERMS = 1
 
@@ -30,6 +30,9 @@ CLOSE-DAY = 8
 abbrev pub CLOSE-MONTH : ℕ
 CLOSE-MONTH = 9
 
+abbrev pub CONFISCATED : ℕ
+CONFISCATED = 10
+
 -- R12: what a table has for a kind, or what holds of every kind that it does not name.
 unfoldable pub lookup : {A : Type 0} → ℕ → List (ℕ × A) → A → A
 lookup kind [] otherwise = otherwise
@@ -43,8 +46,12 @@ row accounts flags words since = record { accounts = accounts; flags = flags; wo
 abbrev pub never : ℕ
 never = 255
 
+-- R84: old ledgers and archives go by version 1, new ones by version 2.
+abbrev pub version : Bool → ℕ
+version new = cond new 2 1
+
 -- R12: the accounts that a kind names (none: it is the ledger's matter; one: A's; two: A's and B's), its largest flags, how many of its words
--- it uses, from w1 on, and which version of the rules brought it; these rules are version 1.
+-- it uses, from w1 on, and which version of the rules brought it.
 unfoldable pub kindOf : ℕ → Kind
 kindOf kind =
     lookup kind
@@ -57,5 +64,6 @@ kindOf kind =
     ∷ (USAGE, row 1 0 1 1)
     ∷ (CLOSE-DAY, row 0 0 0 1)
     ∷ (CLOSE-MONTH, row 0 0 4 1)
+    ∷ (CONFISCATED, row 1 0 1 2)
     ∷ [])
     (row 0 0 0 never)

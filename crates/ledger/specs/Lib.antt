@@ -15,6 +15,7 @@ pub mod Transfer
 pub mod Trade
 pub mod Measure
 pub mod Usage
+pub mod Confiscated
 pub mod Closing
 pub mod Closings
 pub mod Days

@@ -16,11 +16,12 @@ use Rattle.ledger.specs.Transfer.{postTransfer}
 use Rattle.ledger.specs.Trade.{trade}
 use Rattle.ledger.specs.Measure.{measurement}
 use Rattle.ledger.specs.Usage.{usage}
+use Rattle.ledger.specs.Confiscated.{confiscation}
 use Rattle.ledger.specs.Closings.{postClosing}
 use Rattle.ledger.specs.Days.{wrongDay}
 
 -- R22: 20 if the ledger is out of range, 21 if it has not begun and this is no TERMS, 22 if it has begun and is at another date.
--- 23 belongs to the kinds (R27, R30, R40, R42) and is asked here as the first of their checks.
+-- 23 belongs to the kinds (R27, R30, R40, R42, R85) and is asked here as the first of their checks.
 unfoldable pub standingChecks : Ledger → Entry → List Check
 standingChecks l e =
     (not (inRange l), 20)
@@ -31,7 +32,7 @@ standingChecks l e =
 
 -- R22: everything that is asked before the kind's own checks: 2 to 7, then 20 to 23.
 unfoldable pub admission : Ledger → Entry → ℕ
-admission l e = verdict (entryChecks e ++ standingChecks l e)
+admission l e = verdict (entryChecks (l .«is_new») e ++ standingChecks l e)
 
 -- R23: the kinds that name no account, or two. The last line is never reached, as admission refuses unknown kinds.
 unfoldable pub postSeveral : Ledger → Entry → Posted
@@ -53,6 +54,7 @@ changeOf t a e =
     ∷ (kinds.TRADE, trade a e)
     ∷ (kinds.MEASURE, measurement a e)
     ∷ (kinds.USAGE, usage a e)
+    ∷ (kinds.CONFISCATED, confiscation a e)
     ∷ [])
     (record { number = 2; account = a })
 

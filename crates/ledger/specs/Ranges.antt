@@ -1,7 +1,7 @@
 -- The range of every number in a ledger (R16); one outside tells of a damaged ledger (20), or of a posting that goes too far (29).
 use Rattle.tariff.specs.Vocabulary.{Bool, true, not, _&&_, _||_, leb, List, [], _∷_}
 use Rattle.ledger.specs.Structs.{Account, Ledger, Step, Totals}
-use Rattle.tariff.specs.Bounds.{mostBank, mostOverdraft, mostMdq, mostBcq, mostMcf, mostOwed, mostDays}
+use Rattle.tariff.specs.Bounds.{mostUnits, mostBank, mostOverdraft, mostMdq, mostBcq, mostMcf, mostOwed, mostDays}
 use Rattle.tariff.specs.Amounts.{within, withinMills}
 use Rattle.tariff.specs.Dates.{real}
 use Rattle.tariff.specs.Terms.{termsInRange}
@@ -32,6 +32,7 @@ accountInRange a =
     && leb (a .carry .0) mostBank
     && withinMills mostOwed (a .owed)
     && leb (a .«violation_days») mostDays
+    && leb (a .today .confiscation .0) mostUnits
 
 -- R18: whether all accounts pass a test.
 unfoldable pub everyAccount : (Account → Bool) → List Account → Bool

@@ -26,8 +26,9 @@ totals net sales purchases ins outs usage =
     record { net = net; sales = sales; purchases = purchases; «cash_ins» = ins; «cash_outs» = outs; usage = usage }
 
 -- R16: the ledger around them.
-abbrev pub ledger : Bool → Bool → Date → Terms → List Account → Ledger
-ledger begun touched date terms accounts = record { begun = begun; touched = touched; date = date; terms = terms; accounts = accounts }
+abbrev pub ledger : Bool → Bool → Bool → Date → Terms → List Account → Ledger
+ledger begun touched new date terms accounts =
+    record { begun = begun; touched = touched; «is_new» = new; date = date; terms = terms; accounts = accounts }
 
 -- R17: a month in which nothing has happened yet; each CLOSE MONTH begins one (R44).
 unfoldable pub noTotals : Totals
@@ -37,9 +38,9 @@ unfoldable pub noMonth : ThisMonth
 unfolding noTotals
 noMonth = record { totals = noTotals; measured = false; metered = false }
 
--- R17: a day without its delivery; each closing begins one (R19).
+-- R17: a day without its delivery, of which nothing confiscated was told (R85); each closing begins one (R19).
 unfoldable pub noToday : Today
-noToday = record { delivered = false; v1 = false; v2 = false }
+noToday = record { delivered = false; v1 = false; v2 = false; confiscated = false; confiscation = record { 0 = 0 } }
 
 -- R17: an account that is not open, every number 0 and every mark off.
 unfoldable pub nobody : Account
@@ -48,9 +49,9 @@ nobody =
     account false false noToday (record { 0 = pos 0 }) (record { 0 = 0 }) (record { k = 0; pending = 0; over = 0; under = 0 })
     (record { mddq = record { 0 = 0 }; bcq = record { 0 = 0 } }) noMonth (record { 0 = 0 }) (record { 0 = pos 0 }) 0
 
--- R17: the ledger before its first posting.
-unfoldable pub fresh : Ledger
-fresh = ledger false false (record { year = 0; month = record { 0 = 0 }; day = 0 }) (termsFrom 0 0 0 0 0 0) (replicate 16 nobody)
+-- R17: the ledger before its first posting, told whether it is old or new (R84).
+unfoldable pub fresh : Bool → Ledger
+fresh new = ledger false false new (record { year = 0; month = record { 0 = 0 }; day = 0 }) (termsFrom 0 0 0 0 0 0) (replicate 16 nobody)
 
 -- R16: account i; beyond the sixteenth there is nobody.
 unfoldable pub accountAt : Ledger → ℕ → Account
@@ -95,4 +96,4 @@ withTotals a totals = withMonth a (record { totals = totals; measured = a .month
 
 -- R19: storing an account is accepting, so the day is touched.
 unfoldable pub withAccount : Ledger → ℕ → Account → Ledger
-withAccount l i a = ledger (l .begun) true (l .date) (l .terms) (set (l .accounts) i a)
+withAccount l i a = ledger (l .begun) true (l .«is_new») (l .date) (l .terms) (set (l .accounts) i a)

@@ -35,6 +35,7 @@ use tariff::closing::carry;
 use tariff::closing::cash;
 use tariff::closing::ends_excuse;
 use tariff::closing::forfeit;
+use tariff::closing::forfeit_under;
 use tariff::closing::mask;
 use tariff::closing::withdrawal_limit;
 use tariff::dates::Date;
@@ -200,10 +201,10 @@ fn month_end(
     next
 }
 
-fn close_month(d: Date, t: Terms, p: Prices, a: Account) -> Closed
+fn close_month(is_new: bool, d: Date, t: Terms, p: Prices, a: Account) -> Closed
     requires { ⌜ (real d ≡ true) × (accountInRange a ≡ true) × (a .opened ≡ true) ⌝ }
     requires { ⌜ (termsInRange t ≡ true) × (pricesInRange p ≡ true) ⌝ }
-    ensures { λ r. ⌜ r ≡ monthClosing d t p a ⌝ }
+    ensures { λ r. ⌜ r ≡ monthClosing «is_new» d t p a ⌝ }
 {
     let month = d.month;
     let limit = limit(d, a);
@@ -216,7 +217,9 @@ fn close_month(d: Date, t: Terms, p: Prices, a: Account) -> Closed
     let totals = day.month.totals;
     let bill = bill(t, p, mddq, totals);
     let bank = day.bank;
-    let forfeit = forfeit(month, capacity.bcq, bank);
+    let excess = forfeit(month, capacity.bcq, bank);
+    // What was confiscated is told by the account as it came: the day's part has cleared it.
+    let forfeit = forfeit_under(is_new, a.today.confiscation, excess);
     let account = month_end(d, limit, step, capacity, forfeit, bill, day);
     let report = Report {
         mask,
@@ -243,16 +246,16 @@ fn left_alone(a: Account) -> Closed
     }
 }
 
-pub fn close_account(t: Terms, e: Entry, a: Account) -> Closed
+pub fn close_account(is_new: bool, t: Terms, e: Entry, a: Account) -> Closed
     requires { ⌜ (real (e .date) ≡ true) × (accountInRange a ≡ true) × (termsInRange t ≡ true) × (e .kind ≡ CLOSE-MONTH → pricesInRange (pricesOf e) ≡ true) ⌝ }
     requires opened { ⌜ a .opened ≡ true ⌝ }
-    ensures { λ r. ⌜ r ≡ closingOf t e a ⌝ }
+    ensures { λ r. ⌜ r ≡ closingOf «is_new» t e a ⌝ }
 {
     let date = e.date;
     let kind = e.kind;
     match kind {
         kinds::CLOSE_DAY => close_day(date, a),
-        kinds::CLOSE_MONTH => close_month(date, t, e.prices(), a),
+        kinds::CLOSE_MONTH => close_month(is_new, date, t, e.prices(), a),
         _ => left_alone(a),
     }
 }

@@ -30,11 +30,12 @@ fn close_all(l: Ledger, e: Entry) -> Closings
     requires { ⌜ (admission l e ≡ 0) × (e .kind ≡ TERMS → ⊥) ⌝ }
     ensures closed { λ r. ⌜ (r .ledger ≡ closed l e .ledger) × (r .reports ≡ closed l e .answer .reports) ⌝ }
     ensures complete { λ r. ⌜ r .complete ≡ everyAccount (ready (lastOfMonth (e .date)) (onMeasurementDay (e .date))) (l .accounts) ⌝ }
-    ensures fits { λ r. ⌜ r .fits ≡ everyAccount (staysInRange (l .terms) e) (l .accounts) ⌝ }
+    ensures fits { λ r. ⌜ r .fits ≡ everyAccount (staysInRange (l .«is_new») (l .terms) e) (l .accounts) ⌝ }
 {
     let date = e.date;
     let ends = date.last_of_month();
     let reads = date.on_measurement_day();
+    let is_new = l.is_new;
     let terms = l.terms;
     let mut next = l;
     let quiet = quiet();
@@ -44,7 +45,7 @@ fn close_all(l: Ledger, e: Entry) -> Closings
     for i in 0..16 {
         let a = l.accounts[i];
         if a.opened {
-            let one = close_account(terms, e, a);
+            let one = close_account(is_new, terms, e, a);
             let day = one.day;
             let account = one.account;
             let report = one.report;

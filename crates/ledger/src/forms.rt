@@ -6,6 +6,7 @@ use crate::entries::Entry;
 use crate::kinds;
 use crate::kinds::Kind;
 use crate::kinds::kind_of;
+use crate::kinds::version;
 use tariff::bounds::MOST_MCF;
 use tariff::bounds::MOST_MDQ;
 use tariff::bounds::MOST_UNITS;
@@ -52,6 +53,7 @@ fn words_in_range(e: Entry) -> bool
         kinds::USAGE => e.w1 <= MOST_MCF,
         kinds::CLOSE_DAY => true,
         kinds::CLOSE_MONTH => e.prices().in_range(),
+        kinds::CONFISCATED => e.w1 <= MOST_UNITS,
         _ => false,
     }
 }
@@ -63,12 +65,12 @@ fn wrong_transfer(e: Entry) -> bool
 }
 
 // The number of the first of 2 to 7 that applies, or 0.
-pub fn number_of(e: Entry) -> u64
-    ensures { λ r. ⌜ r ≡ entryNumber e ⌝ }
+pub fn number_of(is_new: bool, e: Entry) -> u64
+    ensures { λ r. ⌜ r ≡ entryNumber «is_new» e ⌝ }
 {
     let date = e.date;
     let k = kind_of(e.kind);
-    let no_kind = !(k.since <= 1);
+    let no_kind = !(k.since <= version(is_new));
     let no_date = !date.real();
     let too_high = account_too_high(k, e);
     let set = unused_set(k, e);

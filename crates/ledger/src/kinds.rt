@@ -1,6 +1,6 @@
 // The kinds of entries: their numbers, and the one table of what each uses.
 ghost use mathlib.Core.Path.{_≡_};
-ghost use Rattle.ledger.specs.Kinds.{row, kindOf};
+ghost use Rattle.ledger.specs.Kinds.{row, version, kindOf};
 
 pub const TERMS: u64 = 1;
 
@@ -20,6 +20,8 @@ pub const CLOSE_DAY: u64 = 8;
 
 pub const CLOSE_MONTH: u64 = 9;
 
+pub const CONFISCATED: u64 = 10;
+
 const NEVER: u64 = 255;
 
 pub struct Kind {
@@ -29,7 +31,7 @@ pub struct Kind {
     pub flags: u64,
     // How many of w1 to w6 it uses.
     pub words: u64,
-    // Which rules brought it, 1 being the first.
+    // Which rules brought it: 1 the old ones, 2 the new ones.
     pub since: u64,
 }
 
@@ -42,6 +44,13 @@ fn row(accounts: u64, flags: u64, words: u64, since: u64) -> Kind
         words,
         since,
     }
+}
+
+// The rules of an old ledger or archive, or of a new one.
+pub fn version(is_new: bool) -> u64
+    ensures { λ r. ⌜ r ≡ version «is_new» ⌝ }
+{
+    if is_new { 2 } else { 1 }
 }
 
 pub fn kind_of(kind: u64) -> Kind
@@ -57,6 +66,7 @@ pub fn kind_of(kind: u64) -> Kind
         USAGE => row(1, 0, 1, 1),
         CLOSE_DAY => row(0, 0, 0, 1),
         CLOSE_MONTH => row(0, 0, 4, 1),
+        CONFISCATED => row(1, 0, 1, 2),
         _ => row(0, 0, 0, NEVER),
     }
 }

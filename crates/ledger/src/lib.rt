@@ -1,9 +1,10 @@
-// The bank ledger: postings of nine kinds, and the panel.
+// The bank ledger: postings of ten kinds, and the panel.
 mod answers;
 mod changes;
 mod checks;
 mod closing;
 mod closings;
+mod confiscated;
 mod deliver;
 mod enrol;
 mod entries;
@@ -30,6 +31,7 @@ pub use state::Ledger;
 pub use state::ThisMonth;
 pub use state::Today;
 ghost use mathlib.Core.Path.{_≡_};
+ghost use mathlib.Core.Bool.{Bool};
 ghost use Rattle.ledger.specs.Forms.{formNumber};
 ghost use Rattle.ledger.specs.State.{fresh};
 ghost use Rattle.ledger.specs.Posting.{posted};
@@ -53,9 +55,9 @@ use tariff::dates::Date;
 use tariff::months::Month;
 use tariff::terms::Terms;
 
-// A ledger with no terms, no date and no open account.
-pub fn fresh() -> Ledger
-    ensures { λ r. ⌜ r ≡ fresh ⌝ }
+// A ledger with no terms, no date and no open account, told whether it is old or new.
+pub fn fresh(is_new: bool) -> Ledger
+    ensures { λ r. ⌜ r ≡ fresh «is_new» ⌝ }
 {
     let nobody = nobody();
     let accounts = [nobody; 16];
@@ -75,20 +77,21 @@ pub fn fresh() -> Ledger
     Ledger {
         begun: false,
         touched: false,
+        is_new,
         date,
         terms,
         accounts,
     }
 }
 
-// What is wrong with bytes by themselves: the first of 1 to 7 that applies, or 0.
-pub fn entry_number(entry: &[u8]) -> u64
-    ensures { λ r. ⌜ r ≡ formNumber (now (entry .entry)) ⌝ }
+// What is wrong with bytes by themselves, in an old list or in a new one: the first of 1 to 7 that applies, or 0.
+pub fn entry_number(is_new: bool, entry: &[u8]) -> u64
+    ensures { λ r. ⌜ r ≡ formNumber «is_new» (now (entry .entry)) ⌝ }
 {
     if entry.len() != 32 {
         return 1;
     }
-    number_of(decode(entry))
+    number_of(is_new, decode(entry))
 }
 
 // Any bytes, to any ledger.
@@ -108,7 +111,8 @@ pub fn post(mut ledger: Ledger, entry: &[u8]) -> Posted
         let fit = account_in_range(one);
         fits = fits & fit;
     }
-    let n = admission(fits, ledger.begun, ledger.touched, today, e);
+    let is_new = ledger.is_new;
+    let n = admission(fits, ledger.begun, ledger.touched, is_new, today, e);
     if n != 0 {
         return answered(ledger, n);
     }
@@ -165,7 +169,7 @@ pub fn bank(ledger: Ledger, account: usize) -> Units
     open_bank(a)
 }
 
-// R67: cases worked out in advance hold of postings to a fresh ledger, as one group.
+// R67: cases worked out in advance hold of postings to a fresh ledger, old or new, as one group.
 pub fn marked_cases()
-    ensures { λ r. ⌜ MarkedCases ⌝ }
+    ensures { λ r. ⌜ ((new : Bool) → MarkedCases new) ⌝ }
 {}

@@ -13,6 +13,7 @@ use crate::answers::answered;
 use crate::changes::Change;
 use crate::checks::refuse;
 use crate::closings::post_closing;
+use crate::confiscated::confiscation;
 use crate::deliver::delivery;
 use crate::enrol::enrolment;
 use crate::entries::Entry;
@@ -41,16 +42,17 @@ fn wrong_day(touched: bool, e: Entry) -> bool
         kinds::MEASURE => !date.on_measurement_day(),
         kinds::CLOSE_DAY => date.last_of_month() | date.last_date(),
         kinds::CLOSE_MONTH => !date.last_of_month() | date.last_date(),
+        kinds::CONFISCATED => !date.on_confiscation_day(),
         _ => false,
     }
 }
 
-// What every posting is asked, whatever its kind, of a ledger by what is asked of it: whether its numbers are in their ranges, whether it has begun and was posted to today, and its date.
-pub fn admission(fits: bool, begun: bool, touched: bool, today: Date, e: Entry) -> u64
-    ensures { λ r. ⌜ ((l : declared.Ledger) → inRange l ≡ fits → l .begun ≡ begun → l .touched ≡ touched → l .date ≡ today → r ≡ admission l e) ⌝ }
+// What every posting is asked, whatever its kind, of a ledger by what is asked of it: whether its numbers are in their ranges, whether it has begun and was posted to today, whether it is new, and its date.
+pub fn admission(fits: bool, begun: bool, touched: bool, is_new: bool, today: Date, e: Entry) -> u64
+    ensures { λ r. ⌜ ((l : declared.Ledger) → inRange l ≡ fits → l .begun ≡ begun → l .touched ≡ touched → l .«is_new» ≡ «is_new» → l .date ≡ today → r ≡ admission l e) ⌝ }
 {
     let date = e.date;
-    let n = number_of(e);
+    let n = number_of(is_new, e);
     if n != 0 {
         return n;
     }
@@ -93,6 +95,7 @@ pub fn change(t: Terms, a: Account, e: Entry) -> Change
         kinds::TRADE => trade(a, e),
         kinds::MEASURE => measurement(a, e),
         kinds::USAGE => usage(a, e),
+        kinds::CONFISCATED => confiscation(a, e),
         _ => Change {
             number: 2,
             account: a,

@@ -11,6 +11,7 @@ use tariff::bounds::MOST_MCF;
 use tariff::bounds::MOST_MDQ;
 use tariff::bounds::MOST_OVERDRAFT;
 use tariff::bounds::MOST_OWED;
+use tariff::bounds::MOST_UNITS;
 use tariff::steps::Step;
 
 fn totals_in_range(m: Totals) -> bool
@@ -49,6 +50,7 @@ pub fn account_in_range(a: Account) -> bool
         & (a.carry.0 <= MOST_BANK)
         & owed
         & (a.violation_days <= MOST_DAYS)
+        & (a.today.confiscation.0 <= MOST_UNITS)
 }
 
 pub fn in_range(l: Ledger) -> bool

@@ -21,6 +21,9 @@ pub struct Today {
     // What that delivery broke.
     pub v1: bool,
     pub v2: bool,
+    // CONFISCATED was accepted, and the amount that it told.
+    pub confiscated: bool,
+    pub confiscation: Quantity,
 }
 
 // What CLOSE MONTH clears.
@@ -53,6 +56,8 @@ pub struct Ledger {
     pub begun: bool,
     // Something was accepted today.
     pub touched: bool,
+    // Under which rules it was begun; no posting changes it.
+    pub is_new: bool,
     pub date: Date,
     pub terms: Terms,
     pub accounts: [Account; 16],
@@ -89,6 +94,8 @@ pub fn no_today() -> Today
         delivered: false,
         v1: false,
         v2: false,
+        confiscated: false,
+        confiscation: Quantity(0),
     }
 }
 

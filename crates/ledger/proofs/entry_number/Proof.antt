@@ -2,6 +2,7 @@
 use borrow.Author.Needs.{needs}
 use borrow.Author.Tests.{eq-eqb, ne-eqb}
 use Prim.Native.Nat.{ℕ}
+use mathlib.Core.Bool.{Bool}
 use mathlib.Core.List.{List}
 use mathlib.Core.Path.{_≡_}
 use lib.ListN.{length}
@@ -11,12 +12,12 @@ use Rattle.ledger.specs.Structs.{Entry}
 use Rattle.ledger.proofs.entry_number.Statement.{statement}
 use Rattle.ledger.proofs.entry_number.Tie as tie
 
-module _ (b : List ℕ) where
-  otherwise : (length b ≡ 32 → ⊥) → 1 ≡ formNumber b
+module _ (new : Bool) (b : List ℕ) where
+  otherwise : (length b ≡ 32 → ⊥) → 1 ≡ formNumber new b
   unfolding formNumber
   otherwise d = cc (ne-eqb (length b) 32 d)
 
-  whole : length b ≡ 32 → (e : Entry) (n : ℕ) → e ≡ entryOf b → n ≡ entryNumber e → n ≡ formNumber b
+  whole : length b ≡ 32 → (e : Entry) (n : ℕ) → e ≡ entryOf b → n ≡ entryNumber new e → n ≡ formNumber new b
   unfolding formNumber
   whole h e n p q = cc (eq-eqb (length b) 32 h)
 

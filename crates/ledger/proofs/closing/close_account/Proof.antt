@@ -2,7 +2,7 @@
 use borrow.Author.Needs.{needs}
 use borrow.Author.Tests.{eq-eqb, ne-eqb}
 use native.Mathlib.Omega.{arith}
-use mathlib.Core.Bool.{true}
+use mathlib.Core.Bool.{Bool, true}
 use mathlib.Core.Path.{_≡_}
 use Rattle.ledger.specs.Structs.{Account, Closed, Entry, Prices, Terms}
 use Rattle.ledger.specs.Closing.{closingOf, dayClosing, leftAlone, monthClosing}
@@ -11,16 +11,16 @@ use Rattle.ledger.specs.Kinds.{lookup}
 use Rattle.ledger.proofs.closing.close_account.Statement.{statement}
 use Rattle.ledger.proofs.closing.close_account.Tie as tie
 
-module _ (t : Terms) (e : Entry) (a : Account) (open′ : a .opened ≡ true) (r : Closed) where
-  for-day : e .kind ≡ 8 → r ≡ dayClosing (e .date) a → r ≡ closingOf t e a
+module _ (new : Bool) (t : Terms) (e : Entry) (a : Account) (open′ : a .opened ≡ true) (r : Closed) where
+  for-day : e .kind ≡ 8 → r ≡ dayClosing (e .date) a → r ≡ closingOf new t e a
   unfolding closingOf lookup
   for-day k h = cc (eq-eqb (e .kind) 8 k)
 
-  for-month : e .kind ≡ 9 → (p : Prices) → p ≡ pricesOf e → r ≡ monthClosing (e .date) t p a → r ≡ closingOf t e a
+  for-month : e .kind ≡ 9 → (p : Prices) → p ≡ pricesOf e → r ≡ monthClosing new (e .date) t p a → r ≡ closingOf new t e a
   unfolding closingOf lookup
   for-month k p q h = cc (ne-eqb (e .kind) 8 (λ z. omega (arith, z, k)), eq-eqb (e .kind) 9 k)
 
-  for-none : (e .kind ≡ 8 → ⊥) → (e .kind ≡ 9 → ⊥) → r ≡ leftAlone a → r ≡ closingOf t e a
+  for-none : (e .kind ≡ 8 → ⊥) → (e .kind ≡ 9 → ⊥) → r ≡ leftAlone a → r ≡ closingOf new t e a
   unfolding closingOf lookup
   for-none x y h = cc (ne-eqb (e .kind) 8 x, ne-eqb (e .kind) 9 y)
 

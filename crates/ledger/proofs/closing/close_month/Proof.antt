@@ -3,7 +3,7 @@ use borrow.Author.Needs.{needs}
 use Rattle.ledger.proofs.Closable.{Closable, closable}
 use Rattle.ledger.proofs.Bounded.{bounded, stepped}
 use Rattle.tariff.proofs.Laws.{settled-k}
-use Rattle.ledger.specs.Closing.{billAt, monthClosing, afterDay, dayEnd, forfeitAt, limitOf, afterMonth, nextCapacity}
+use Rattle.ledger.specs.Closing.{billAt, monthClosing, afterDay, dayEnd, excessAt, forfeitAt, limitOf, afterMonth, nextCapacity}
 use Rattle.ledger.specs.State.{withBank, withDays, withExcuse, withMonth, withToday, withTotals}
 use Rattle.ledger.proofs.closing.close_month.Statement.{statement}
 use Rattle.ledger.proofs.closing.close_month.Tie as tie
@@ -37,12 +37,16 @@ forfeit-requires : tie.Need-forfeit-requires
 forfeit-requires c κs = search (left (search))
 
 month-end-requires : tie.Need-month-end-requires
-month-end-requires c κs = search (needs, left (search))
+month-end-requires c κs =
+    let limited : tie.After-limit = search in
+    let taken : tie.After-forfeit = search in
+    search (needs, left (search), limited .limit .ensures .1, taken .forfeit .ensures .1)
 
 returns : tie.Need-returns
-unfolding monthClosing afterMonth afterDay billAt forfeitAt nextCapacity dayEnd limitOf withToday withDays withExcuse withTotals withMonth withBank
+unfolding monthClosing afterMonth afterDay billAt excessAt forfeitAt nextCapacity dayEnd limitOf withToday withDays withExcuse withTotals withMonth withBank
 returns c = rw (
   (let at : tie.After-month-end = search in at .month-end .ensures),
+  (let at : tie.After-forfeit-under = search in at .forfeit-under .ensures .0),
   (let at : tie.After-forfeit = search in at .forfeit .ensures .0),
   (let at : tie.After-bill = search in at .bill .ensures .0),
   (let at : tie.After-capacity = search in at .capacity .ensures .0),

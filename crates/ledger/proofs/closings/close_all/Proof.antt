@@ -26,10 +26,10 @@ use Rattle.ledger.proofs.closings.close_all.Tie as tie
 
 module _ (l : Ledger) (e : Entry) (i : ℕ) where
   abbrev accountsTo : Ledger
-  accountsTo = withAccounts l (filled (afterClosing (l .terms) e) (l .accounts) (l .accounts) i)
+  accountsTo = withAccounts l (filled (afterClosing (l .«is_new») (l .terms) e) (l .accounts) (l .accounts) i)
 
   abbrev reportsTo : List Report
-  reportsTo = filled (reportOf (l .terms) e) (l .accounts) (replicate 16 quiet) i
+  reportsTo = filled (reportOf (l .«is_new») (l .terms) e) (l .accounts) (replicate 16 quiet) i
 
 abbrev Agrees : Ledger → ℕ → (Account → Bool) → Bool → Type 0
 Agrees l i p so-far = so-far && everyAccount p (drop i (l .accounts)) ≡ everyAccount p (l .accounts)
@@ -38,34 +38,34 @@ abbrev Ready : Entry → Account → Bool
 Ready e = ready (lastOfMonth (e .date)) (onMeasurementDay (e .date))
 
 abbrev Inv-loop : tie.InvT-loop
-Inv-loop e l date ends reads terms next₀ reports₀ complete₀ fits₀ i₀ next reports complete fits i =
+Inv-loop e l date ends reads «is_new» terms next₀ reports₀ complete₀ fits₀ i₀ next reports complete fits i =
     (i ≤ 16)
     × (next ≡ accountsTo l e i)
     × (reports ≡ reportsTo l e i)
     × Agrees l i (Ready e) complete
-    × Agrees l i (staysInRange (l .terms) e) fits
+    × Agrees l i (staysInRange (l .«is_new») (l .terms) e) fits
     × (ends ≡ lastOfMonth (e .date))
     × (reads ≡ onMeasurementDay (e .date))
 
 abbrev μ-loop : tie.MeasureT-loop
-μ-loop e l date ends reads terms next₀ reports₀ complete₀ fits₀ i₀ next reports complete fits i = 16 - i
+μ-loop e l date ends reads «is_new» terms next₀ reports₀ complete₀ fits₀ i₀ next reports complete fits i = 16 - i
 
 -- ---- one account further
 
 module _ (l : Ledger) (e : Entry) (i : ℕ) (n : length (l .accounts) ≡ 16) (h : i < 16) where
   -- an open account is closed
-  open-stored : (next r : Ledger) (one : Closed) → r ≡ withAccounts next (set (next .accounts) i (one .account)) → next ≡ accountsTo l e i → one ≡ closingOf (l .terms) e (accountAt l i) → r ≡ accountsTo l e (i + 1)
+  open-stored : (next r : Ledger) (one : Closed) → r ≡ withAccounts next (set (next .accounts) i (one .account)) → next ≡ accountsTo l e i → one ≡ closingOf (l .«is_new») (l .terms) e (accountAt l i) → r ≡ accountsTo l e (i + 1)
   unfolding accountAt afterClosing
-  open-stored next r one q v p = cc (filled-next (afterClosing (l .terms) e) (l .accounts) (l .accounts) i nobody refl (omega arith))
+  open-stored next r one q v p = cc (filled-next (afterClosing (l .«is_new») (l .terms) e) (l .accounts) (l .accounts) i nobody refl (omega arith))
 
-  open-reported : (reports r : List Report) (one : Closed) → r ≡ set reports i (one .report) → reports ≡ reportsTo l e i → one ≡ closingOf (l .terms) e (accountAt l i) → r ≡ reportsTo l e (i + 1)
+  open-reported : (reports r : List Report) (one : Closed) → r ≡ set reports i (one .report) → reports ≡ reportsTo l e i → one ≡ closingOf (l .«is_new») (l .terms) e (accountAt l i) → r ≡ reportsTo l e (i + 1)
   unfolding accountAt reportOf
-  open-reported reports r one q v p = cc (filled-next (reportOf (l .terms) e) (l .accounts) (replicate 16 quiet) i nobody (omega arith) (omega arith))
+  open-reported reports r one q v p = cc (filled-next (reportOf (l .«is_new») (l .terms) e) (l .accounts) (replicate 16 quiet) i nobody (omega arith) (omega arith))
 
-  open-stays : (fits day end r : Bool) (one : Closed) → r ≡ fits && (day && end) → Agrees l i (staysInRange (l .terms) e) fits → day ≡ accountInRange (one .day) → end ≡ accountInRange (one .account)
-      → one ≡ closingOf (l .terms) e (accountAt l i) → Agrees l (i + 1) (staysInRange (l .terms) e) r
+  open-stays : (fits day end r : Bool) (one : Closed) → r ≡ fits && (day && end) → Agrees l i (staysInRange (l .«is_new») (l .terms) e) fits → day ≡ accountInRange (one .day) → end ≡ accountInRange (one .account)
+      → one ≡ closingOf (l .«is_new») (l .terms) e (accountAt l i) → Agrees l (i + 1) (staysInRange (l .«is_new») (l .terms) e) r
   unfolding accountAt staysInRange
-  open-stays fits day end r one q v x y p = cc (every-next (staysInRange (l .terms) e) (l .accounts) i nobody fits (omega arith))
+  open-stays fits day end r one q v x y p = cc (every-next (staysInRange (l .«is_new») (l .terms) e) (l .accounts) i nobody fits (omega arith))
 
   open-complete : (complete had ends reads r : Bool) → Agrees l i (Ready e) complete → had ≡ ready ends reads (accountAt l i) → ends ≡ lastOfMonth (e .date) → reads ≡ onMeasurementDay (e .date) → r ≡ complete && had
       → Agrees l (i + 1) (Ready e) r
@@ -74,30 +74,30 @@ module _ (l : Ledger) (e : Entry) (i : ℕ) (n : length (l .accounts) ≡ 16) (h
 
   -- one that is not open stays as it is, lacks nothing, and has nothing to report
   module _ (o : accountAt l i .opened ≡ false) where
-    shut : closingOf (l .terms) e (accountAt l i) ≡ leftAlone (accountAt l i)
+    shut : closingOf (l .«is_new») (l .terms) e (accountAt l i) ≡ leftAlone (accountAt l i)
     unfolding closingOf
     shut = rw o
 
     shut-stored : (next r : Ledger) → next ≡ accountsTo l e i → r ≡ next → r ≡ accountsTo l e (i + 1)
     unfolding accountAt afterClosing leftAlone
     shut-stored next r v q =
-        q ∙ v ∙ ap (withAccounts l) (filled-kept (afterClosing (l .terms) e) (l .accounts) (l .accounts) i nobody nobody refl (omega arith) (ap (λ (c : Closed). c .account) shut))
+        q ∙ v ∙ ap (withAccounts l) (filled-kept (afterClosing (l .«is_new») (l .terms) e) (l .accounts) (l .accounts) i nobody nobody refl (omega arith) (ap (λ (c : Closed). c .account) shut))
 
     shut-reported : (reports r : List Report) → reports ≡ reportsTo l e i → r ≡ reports → r ≡ reportsTo l e (i + 1)
     unfolding accountAt reportOf leftAlone
     shut-reported reports r v q =
         q
         ∙ v
-        ∙ filled-kept (reportOf (l .terms) e) (l .accounts) (replicate 16 quiet) i nobody quiet (omega arith) (omega arith) (ap (λ (c : Closed). c .report) shut ∙ sym (getD-replicate 16 i quiet quiet h))
+        ∙ filled-kept (reportOf (l .«is_new») (l .terms) e) (l .accounts) (replicate 16 quiet) i nobody quiet (omega arith) (omega arith) (ap (λ (c : Closed). c .report) shut ∙ sym (getD-replicate 16 i quiet quiet h))
 
     shut-complete : (complete r : Bool) → Agrees l i (Ready e) complete → r ≡ complete → Agrees l (i + 1) (Ready e) r
     unfolding accountAt ready
     shut-complete complete r v q = cc (every-pass (Ready e) (l .accounts) i nobody complete (omega arith) (rw o))
 
-    shut-stays : (fits r : Bool) → accountInRange (accountAt l i) ≡ true → Agrees l i (staysInRange (l .terms) e) fits → r ≡ fits → Agrees l (i + 1) (staysInRange (l .terms) e) r
+    shut-stays : (fits r : Bool) → accountInRange (accountAt l i) ≡ true → Agrees l i (staysInRange (l .«is_new») (l .terms) e) fits → r ≡ fits → Agrees l (i + 1) (staysInRange (l .«is_new») (l .terms) e) r
     unfolding accountAt staysInRange leftAlone
     shut-stays fits r x v q =
-        cc (every-pass (staysInRange (l .terms) e) (l .accounts) i nobody fits (omega arith) (ap (λ (c : Closed). accountInRange (c .day) && accountInRange (c .account)) shut ∙ rw x))
+        cc (every-pass (staysInRange (l .«is_new») (l .terms) e) (l .accounts) i nobody fits (omega arith) (ap (λ (c : Closed). accountInRange (c .day) && accountInRange (c .account)) shut ∙ rw x))
 
 -- ---- what holds of an admitted closing
 
@@ -152,12 +152,12 @@ returns c =
     let i = v .loop .i in
     let n : length (l .accounts) ≡ 16 = sixteen s in (
       (
-        rw (v .loop .inv .1, c .day-after .ensures, filled-end (afterClosing (l .terms) e) (l .accounts) (l .accounts) i (omega (arith, n)) (omega (arith, n))),
-        v .loop .inv .2 ∙ filled-end (reportOf (l .terms) e) (l .accounts) (replicate 16 quiet) i (omega (arith, n)) (omega arith),
+        rw (v .loop .inv .1, c .day-after .ensures, filled-end (afterClosing (l .«is_new») (l .terms) e) (l .accounts) (l .accounts) i (omega (arith, n)) (omega (arith, n))),
+        v .loop .inv .2 ∙ filled-end (reportOf (l .«is_new») (l .terms) e) (l .accounts) (replicate 16 quiet) i (omega (arith, n)) (omega arith),
       ),
       (
         sym (every-end (Ready e) (l .accounts) i (v .loop .complete) (omega (arith, n))) ∙ v .loop .inv .3,
-        sym (every-end (staysInRange (l .terms) e) (l .accounts) i (v .loop .fits) (omega (arith, n))) ∙ v .loop .inv .4,
+        sym (every-end (staysInRange (l .«is_new») (l .terms) e) (l .accounts) i (v .loop .fits) (omega (arith, n))) ∙ v .loop .inv .4,
       ),
     )
 

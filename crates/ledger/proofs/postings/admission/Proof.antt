@@ -16,29 +16,32 @@ use Rattle.ledger.specs.Posting.{admission, standingChecks}
 use Rattle.ledger.proofs.postings.admission.Statement.{statement}
 use Rattle.ledger.proofs.postings.admission.Tie as tie
 
-module _ (fits begun touched : Bool) (today : Date) (e : Entry) (n : ℕ) (p : n ≡ entryNumber e) (l : Ledger)
-    (f : inRange l ≡ fits) (b : l .begun ≡ begun) (t : l .touched ≡ touched) (d : l .date ≡ today) where
+module _ (fits begun touched new : Bool) (today : Date) (e : Entry) (n : ℕ) (p : n ≡ entryNumber new e) (l : Ledger)
+    (f : inRange l ≡ fits) (b : l .begun ≡ begun) (t : l .touched ≡ touched) (i : l .«is_new» ≡ new) (d : l .date ≡ today) where
+  own : n ≡ entryNumber (l .«is_new») e
+  own = rw i p
+
   wrong : (n ≡ 0 → ⊥) → n ≡ admission l e
-  wrong not-right = rw p (sym (admission-own l e (rw p at not-right)))
+  wrong not-right = rw own (sym (admission-own l e (rw own at not-right)))
 
   judged : n ≡ 0 → (same day : Bool) (n₁ n₂ n₃ n₄ : ℕ)
       → n₄ ≡ cond (not fits) 20 n₃ → n₃ ≡ cond (not begun && not (eqb (e .kind) 1)) 21 n₂
       → n₂ ≡ cond (begun && not same) 22 n₁ → n₁ ≡ cond day 23 0 → day ≡ wrongDay touched e → same ≡ sameDate (e .date) today
       → n₄ ≡ admission l e
   unfolding standingChecks verdict
-  judged z same day n₁ n₂ n₃ n₄ q₄ q₃ q₂ q₁ w s = cc (admission-standing l e (sym p ∙ z))
+  judged z same day n₁ n₂ n₃ n₄ q₄ q₃ q₂ q₁ w s = cc (admission-standing l e (sym own ∙ z))
 
-dated : (e : Entry) (n : ℕ) → n ≡ entryNumber e → n ≡ 0 → real (e .date) ≡ true
-dated e n p z = is-real e (own-right e (sym p ∙ z))
+dated : (new : Bool) (e : Entry) (n : ℕ) → n ≡ entryNumber new e → n ≡ 0 → real (e .date) ≡ true
+dated new e n p z = is-real e (own-right new e (sym p ∙ z))
 
 wrong-day-requires : tie.Need-wrong-day-requires
 wrong-day-requires c κs = search dated
 
 returns : tie.Need-returns
-returns c l f b t d = search wrong
+returns c l f b t i d = search wrong
 
 returns-2 : tie.Need-returns-2
-returns-2 c l f b t d = search judged
+returns-2 c l f b t i d = search judged
 
 pub admission-spec : {M : Type 1} → statement M
 admission-spec = tie.close (search (needs, tie.spec, wrong-day-requires, returns, returns-2))

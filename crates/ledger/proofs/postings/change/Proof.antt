@@ -16,6 +16,8 @@ change-spec =
     (λ c κs. search needs)
     (λ c κs. search needs)
     (λ c κs. search needs)
+    (λ c κs. search needs)
+    (λ c. search at)
     (λ c. search at)
     (λ c. search at)
     (λ c. search at)

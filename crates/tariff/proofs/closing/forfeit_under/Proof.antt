@@ -1,6 +1,6 @@
 -- The smaller of two numbers is never above the second, and neither is the second itself.
-use Prim.Native.Nat.{_≤_, min}
-use mathlib.Core.Bool.{cond}
+use Prim.Native.Nat.{ℕ, _≤_, min}
+use mathlib.Core.Bool.{Bool, cond}
 use mathlib.Core.Path.{_≡_}
 use native.Mathlib.Omega.{arith}
 use borrow.Author.Needs.{needs}
@@ -11,12 +11,12 @@ use Rattle.tariff.proofs.closing.forfeit_under.Statement.{statement}
 use Rattle.tariff.proofs.closing.forfeit_under.Tie as tie
 
 -- the answer, from what the calls give
-answer : (new confiscated excess less taken : _) → less ≡ min (confiscated .0) (excess .0) → taken ≡ cond new less (excess .0)
+answer : (new : Bool) (confiscated excess : Quantity) (less taken : ℕ) → less ≡ min (confiscated .0) (excess .0) → taken ≡ cond new less (excess .0)
     → record { 0 = taken } ≡ forfeitUnder new confiscated excess
 unfolding forfeitUnder
 answer new confiscated excess less taken p q = cc
 
-part-le : (new : _) (confiscated excess : Quantity) → forfeitUnder new confiscated excess .0 ≤ excess .0
+part-le : (new : Bool) (confiscated excess : Quantity) → forfeitUnder new confiscated excess .0 ≤ excess .0
 unfolding forfeitUnder
 part-le new confiscated excess = choice-le (excess .0) new (min (confiscated .0) (excess .0)) (excess .0) (omega arith) (omega arith)
 
