@@ -72,8 +72,8 @@ run-reached : (l : Ledger) (k : Known) (bs : List (List ℕ)) → Reached l k �
 run-reached l k [] s = (k, s)
 run-reached l k (b ∷ bs) s = let n = next-reached l k b s in run-reached (posted l b .ledger) (n .0) bs (n .1)
 
-fresh-reached : Reached fresh start
-fresh-reached = record { sound = fresh-sound; rated = λ o. absurd (false≢true (sym fresh-not-begun ∙ o)) }
+fresh-reached : (new : Bool) → Reached (fresh new) start
+fresh-reached new = record { sound = fresh-sound new; rated = λ o. absurd (false≢true (sym (fresh-not-begun new) ∙ o)) }
 
 -- what every accepted posting raises by its term, a list of postings raises by the term's total
 module _ (measure : Ledger → ℤ) (term : Term) (adds : (l : Ledger) (k : Known) (x : Line) (next : Ledger) → Counted l k x next → measure next ≡ measure l +ℤ term k x) where
@@ -100,19 +100,19 @@ module _ (measure : Ledger → ℤ) (term : Term) (adds : (l : Ledger) (k : Know
       rest : List Line
       rest = accepted (history (posted l b .ledger) bs)
 
-  from-fresh : measure fresh ≡ pos 0 → (bs : List (List ℕ)) → measure (run fresh bs) ≡ total term start (accepted (history fresh bs))
-  from-fresh z bs = adds-up fresh start bs fresh-reached ∙ rw z (+ℤ-idl (total term start (accepted (history fresh bs))))
+  from-fresh : (new : Bool) → measure (fresh new) ≡ pos 0 → (bs : List (List ℕ)) → measure (run (fresh new) bs) ≡ total term start (accepted (history (fresh new) bs))
+  from-fresh new z bs = adds-up (fresh new) start bs (fresh-reached new) ∙ rw z (+ℤ-idl (total term start (accepted (history (fresh new) bs))))
 
 -- ---- the claims
 
 pub banks-add-up : BanksAddUp
-banks-add-up bs i h = from-fresh (λ l. bankOf l i) (moved i) (λ l k x next t. t .banks i) (fresh-bank i) bs ∙ moved-sum i (accepted (history fresh bs))
+banks-add-up new bs i h = from-fresh (λ l. bankOf l i) (moved i) (λ l k x next t. t .banks i) new (fresh-bank new i) bs ∙ moved-sum i (accepted (history (fresh new) bs))
 
 pub debts-add-up : DebtsAddUp
-debts-add-up bs i h = from-fresh (λ l. owedOf l i) (billed i) (λ l k x next t. t .debts i) (unfold owedOf in fresh-owed i) bs
+debts-add-up new bs i h = from-fresh (λ l. owedOf l i) (billed i) (λ l k x next t. t .debts i) new (unfold owedOf in fresh-owed new i) bs
 
 pub days-add-up : DaysAddUp
-days-add-up bs i h = from-fresh (λ l. daysOf l i) (violated i) (λ l k x next t. t .days i) (unfold daysOf in fresh-days i) bs
+days-add-up new bs i h = from-fresh (λ l. daysOf l i) (violated i) (λ l k x next t. t .days i) new (unfold daysOf in fresh-days new i) bs
 
 -- all banks together: what some accounts gave others received
 figure-adds : (l : Ledger) (k : Known) (x : Line) (next : Ledger) → Counted l k x next → overFirst 16 (bankOf next) ≡ overFirst 16 (bankOf l) +ℤ figured k x
@@ -122,21 +122,21 @@ figure-adds l k x next t =
     ∙ over-add 16 (bankOf l) (λ i. moved i k x)
     ∙ ap (λ (z : ℤ). overFirst 16 (bankOf l) +ℤ z) (moved-figured k x (t .balances))
 
-fresh-figure : overFirst 16 (bankOf fresh) ≡ pos 0
+fresh-figure : (new : Bool) → overFirst 16 (bankOf (fresh new)) ≡ pos 0
 unfolding overFirst
-fresh-figure = over-cong 16 (bankOf fresh) (λ i. pos 0) fresh-bank
+fresh-figure new = over-cong 16 (bankOf (fresh new)) (λ i. pos 0) (fresh-bank new)
 
-figure-adds-up : (bs : List (List ℕ)) → openBanks (run fresh bs .accounts) ≡ figureSum (accepted (history fresh bs))
-figure-adds-up bs =
-    let l = run fresh bs in
+figure-adds-up : (new : Bool) (bs : List (List ℕ)) → openBanks (run (fresh new) bs .accounts) ≡ figureSum (accepted (history (fresh new) bs))
+figure-adds-up new bs =
+    let l = run (fresh new) bs in
     banks-over (l .accounts)
     ∙ over-cong (length (l .accounts)) (λ i. openBank (getD (l .accounts) i nobody)) (bankOf l) (λ i. sym (bank-at l i))
-    ∙ ap (λ (n : ℕ). overFirst n (bankOf l)) (run-reached fresh start bs fresh-reached .1 .sound .sized)
-    ∙ from-fresh (λ l. overFirst 16 (bankOf l)) figured figure-adds fresh-figure bs
-    ∙ figured-sum (accepted (history fresh bs))
+    ∙ ap (λ (n : ℕ). overFirst n (bankOf l)) (run-reached (fresh new) start bs (fresh-reached new) .1 .sound .sized)
+    ∙ from-fresh (λ l. overFirst 16 (bankOf l)) figured figure-adds new (fresh-figure new) bs
+    ∙ figured-sum (accepted (history (fresh new) bs))
 
 pub panel-adds-up : PanelAddsUp
-panel-adds-up bs = panel-of-sound (run fresh bs) (run-reached fresh start bs fresh-reached .1 .sound) ∙ rw (figure-adds-up bs)
+panel-adds-up new bs = panel-of-sound (run (fresh new) bs) (run-reached (fresh new) start bs (fresh-reached new) .1 .sound) ∙ rw (figure-adds-up new bs)
 
 -- ---- striking
 
@@ -170,4 +170,4 @@ strike l k (b ∷ bs) (m ∷ ms) s =
     go false z ih = (ap (λ (xs : List Line). x ∷ xs) (ih .0), ih .1)
 
 pub striking-changes-nothing : StrikingChangesNothing
-striking-changes-nothing bs marks = strike fresh start bs marks fresh-reached
+striking-changes-nothing new bs marks = strike (fresh new) start bs marks (fresh-reached new)

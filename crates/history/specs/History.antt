@@ -1,5 +1,5 @@
 -- What anyone can add up from the posted bytes and the answers to them, and that the last ledger holds just that.
--- Any list to a fresh ledger will do, with refused postings and garbage in it; no ledger but the last is looked into.
+-- Any list to a fresh ledger, old or new, will do, with refused postings and garbage in it; no ledger but the last is looked into.
 use Rattle.tariff.specs.Vocabulary.{ℕ, zero, suc, _<_, ℤ, pos, _+ℤ_, _-ℤ_, Bool, cond, not, _&&_, _||_, eqb, List, [], _∷_, getD, _≡_}
 use Rattle.ledger.specs.declared.entries.Entry.{Entry}
 use Rattle.ledger.specs.declared.state.Ledger.{Ledger}
@@ -162,31 +162,31 @@ unfoldable pub postingsOf : List Line → List (List ℕ)
 postingsOf [] = []
 postingsOf (x ∷ xs) = x .bytes ∷ postingsOf xs
 
--- ---- the claims, of every list of postings
+-- ---- the claims, of every list of postings to an old fresh ledger or to a new one (R84); CONFISCATED counts in none of the sums
 
 -- R63: each bank is the sum of its terms.
 abbrev pub BanksAddUp : Type 0
-BanksAddUp = (bs : List (List ℕ)) (i : ℕ) → i < 16 → bankOf (run fresh bs) i ≡ bankSum i (accepted (history fresh bs))
+BanksAddUp = (new : Bool) (bs : List (List ℕ)) (i : ℕ) → i < 16 → bankOf (run (fresh new) bs) i ≡ bankSum i (accepted (history (fresh new) bs))
 
 -- R63: the panel's number is 0 and its figure the sum over all.
 abbrev pub PanelAddsUp : Type 0
 PanelAddsUp =
-    (bs : List (List ℕ)) → panelOf (run fresh bs) ≡ record { number = 0; figure = record { 0 = figureSum (accepted (history fresh bs)) } }
+    (new : Bool) (bs : List (List ℕ)) → panelOf (run (fresh new) bs) ≡ record { number = 0; figure = record { 0 = figureSum (accepted (history (fresh new) bs)) } }
 
 -- R64: what is owed is the sum of the reported bills.
 abbrev pub DebtsAddUp : Type 0
-DebtsAddUp = (bs : List (List ℕ)) (i : ℕ) → i < 16 → owedOf (run fresh bs) i ≡ total (billed i) start (accepted (history fresh bs))
+DebtsAddUp = (new : Bool) (bs : List (List ℕ)) (i : ℕ) → i < 16 → owedOf (run (fresh new) bs) i ≡ total (billed i) start (accepted (history (fresh new) bs))
 
 -- R64: violation days are the closings that reported a violation.
 abbrev pub DaysAddUp : Type 0
-DaysAddUp = (bs : List (List ℕ)) (i : ℕ) → i < 16 → daysOf (run fresh bs) i ≡ total (violated i) start (accepted (history fresh bs))
+DaysAddUp = (new : Bool) (bs : List (List ℕ)) (i : ℕ) → i < 16 → daysOf (run (fresh new) bs) i ≡ total (violated i) start (accepted (history (fresh new) bs))
 
 -- R65: the others get the answers that they had, and the last ledger is the same.
 abbrev pub StrikingChangesNothing : Type 0
 StrikingChangesNothing =
-    (bs : List (List ℕ)) (marks : List Bool)
-    → (history fresh (postingsOf (remaining marks (history fresh bs))) ≡ remaining marks (history fresh bs))
-    × (run fresh (postingsOf (remaining marks (history fresh bs))) ≡ run fresh bs)
+    (new : Bool) (bs : List (List ℕ)) (marks : List Bool)
+    → (history (fresh new) (postingsOf (remaining marks (history (fresh new) bs))) ≡ remaining marks (history (fresh new) bs))
+    × (run (fresh new) (postingsOf (remaining marks (history (fresh new) bs))) ≡ run (fresh new) bs)
 
 -- R62: of the sums themselves: whatever the answer to another kind might report, they would not count it.
 abbrev pub OnlyClosingsCount : Type 0
