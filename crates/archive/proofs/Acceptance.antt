@@ -12,47 +12,47 @@ use Rattle.ledger.specs.Forms.{formNumber}
 use Rattle.archive.specs.Entries.{entriesOf, finding, firstRefusal}
 use Rattle.archive.specs.Layout.{sectionsOf, archiveOf}
 use Rattle.archive.specs.Writing.{listChecked, tooLarge, unwritten, written}
-use Rattle.archive.specs.Reading.{wrongHeader, rightDirectory, numbersOf, partsOf, checked}
+use Rattle.archive.specs.Reading.{isNew, wrongHeader, rightDirectory, numbersOf, partsOf, checked}
 use Rattle.archive.specs.Structs.{Checked}
 use Rattle.archive.proofs.Refusals.{Zeros, none-refused, all-zero}
 use Rattle.archive.proofs.Headers.{Measured, measured}
 
 -- ---- the writer
 
-pub record Writable (list : List ℕ) : Type 0 where
+pub record Writable (new : Bool) (list : List ℕ) : Type 0 where
   pub whole : length list % 32 ≡ 0
-  pub forms : Zeros (map formNumber (entriesOf list))
+  pub forms : Zeros (map (formNumber new) (entriesOf list))
   pub few : length (sectionsOf (entriesOf list)) ≤ 1200
-  pub short : length (archiveOf list) ≤ 4294967295
+  pub short : length (archiveOf new list) ≤ 4294967295
 
-module _ (list : List ℕ) where
-  check-zero : listChecked list .number ≡ 0 → Zeros (map formNumber (entriesOf list))
+module _ (new : Bool) (list : List ℕ) where
+  check-zero : listChecked new list .number ≡ 0 → Zeros (map (formNumber new) (entriesOf list))
   unfolding listChecked
-  check-zero h = all-zero 0 (map formNumber (entriesOf list)) h
+  check-zero h = all-zero 0 (map (formNumber new) (entriesOf list)) h
 
-  zero-check : Zeros (map formNumber (entriesOf list)) → listChecked list ≡ finding 0 0
+  zero-check : Zeros (map (formNumber new) (entriesOf list)) → listChecked new list ≡ finding 0 0
   unfolding listChecked
-  zero-check h = none-refused 0 (map formNumber (entriesOf list)) h
+  zero-check h = none-refused 0 (map (formNumber new) (entriesOf list)) h
 
-  answer-case : (whole right large tight : Bool) (size : ℕ) → eqb (listChecked list .number) 0 ≡ right
-      → cond whole (cond right (cond large (unwritten 11 0) (cond tight (unwritten 12 0) (record { number = 0; index = 0; length = size }))) (unwritten (listChecked list .number) (listChecked list .index))) (unwritten 1 0) .number ≡ 0
-      → (whole ≡ true) × (listChecked list .number ≡ 0) × (large ≡ false) × (tight ≡ false)
+  answer-case : (whole right large tight : Bool) (size : ℕ) → eqb (listChecked new list .number) 0 ≡ right
+      → cond whole (cond right (cond large (unwritten 11 0) (cond tight (unwritten 12 0) (record { number = 0; index = 0; length = size }))) (unwritten (listChecked new list .number) (listChecked new list .index))) (unwritten 1 0) .number ≡ 0
+      → (whole ≡ true) × (listChecked new list .number ≡ 0) × (large ≡ false) × (tight ≡ false)
   unfolding unwritten
   answer-case true true true tight size e h = absurd (omega arith)
   answer-case true true false true size e h = absurd (omega arith)
-  answer-case true true false false size e h = (refl, eqb-true (listChecked list .number) 0 e, refl, refl)
-  answer-case true false large tight size e h = absurd (eqb-false (listChecked list .number) 0 e h)
+  answer-case true true false false size e h = (refl, eqb-true (listChecked new list .number) 0 e, refl, refl)
+  answer-case true false large tight size e h = absurd (eqb-false (listChecked new list .number) 0 e h)
   answer-case false right large tight size e h = absurd (omega arith)
 
-  all-passed : (room : ℕ) → written list room .number ≡ 0 → (eqb (length list % 32) 0 ≡ true) × (listChecked list .number ≡ 0) × (tooLarge list ≡ false) × (ltb room (length (archiveOf list)) ≡ false)
+  all-passed : (room : ℕ) → written new list room .number ≡ 0 → (eqb (length list % 32) 0 ≡ true) × (listChecked new list .number ≡ 0) × (tooLarge new list ≡ false) × (ltb room (length (archiveOf new list)) ≡ false)
   unfolding written
   all-passed room h =
-      answer-case (eqb (length list % 32) 0) (eqb (listChecked list .number) 0) (tooLarge list) (ltb room (length (archiveOf list))) (length (archiveOf list)) refl h
+      answer-case (eqb (length list % 32) 0) (eqb (listChecked new list .number) 0) (tooLarge new list) (ltb room (length (archiveOf new list))) (length (archiveOf new list)) refl h
 
-  pub written-tells : (room : ℕ) → written list room .number ≡ 0 → Writable list
+  pub written-tells : (room : ℕ) → written new list room .number ≡ 0 → Writable new list
   unfolding tooLarge
   written-tells room h =
-      let size : ℕ = length (archiveOf list) in
+      let size : ℕ = length (archiveOf new list) in
       let k = all-passed room h in
       let few : Bool = ltb 1200 (length (sectionsOf (entriesOf list))) in
       let short : Bool = ltb 4294967295 size in
@@ -63,20 +63,20 @@ module _ (list : List ℕ) where
         short = ltb-false 4294967295 size (or-right few short (k .2));
       }
 
-  pub written-fits : (room : ℕ) → written list room .number ≡ 0 → length (archiveOf list) ≤ room
-  written-fits room h = ltb-false room (length (archiveOf list)) (all-passed room h .3)
+  pub written-fits : (room : ℕ) → written new list room .number ≡ 0 → length (archiveOf new list) ≤ room
+  written-fits room h = ltb-false room (length (archiveOf new list)) (all-passed room h .3)
 
-  pub writable-written : (room : ℕ) → Writable list → length (archiveOf list) ≤ room → written list room ≡ record { number = 0; index = 0; length = length (archiveOf list) }
+  pub writable-written : (room : ℕ) → Writable new list → length (archiveOf new list) ≤ room → written new list room ≡ record { number = 0; index = 0; length = length (archiveOf new list) }
   unfolding written tooLarge finding
   writable-written room w h =
-      rw (eq-eqb (length list % 32) 0 (w .whole), zero-check (w .forms), le-ltb 1200 (length (sectionsOf (entriesOf list))) (w .few), le-ltb 4294967295 (length (archiveOf list)) (w .short), le-ltb room (length (archiveOf list)) h)
+      rw (eq-eqb (length list % 32) 0 (w .whole), zero-check (w .forms), le-ltb 1200 (length (sectionsOf (entriesOf list))) (w .few), le-ltb 4294967295 (length (archiveOf new list)) (w .short), le-ltb room (length (archiveOf new list)) h)
 
 -- ---- the reader
 
 pub record Readable (a : List ℕ) : Type 0 where
   pub headed : wrongHeader a ≡ false
   pub directed : rightDirectory a ≡ true
-  pub zeros : Zeros (numbersOf (partsOf a))
+  pub zeros : Zeros (numbersOf (isNew a) (partsOf a))
 
 check-case : (wrong right : Bool) (ns : List ℕ) → cond wrong (finding 8 0) (cond right (firstRefusal 0 ns) (finding 9 0)) .number ≡ 0 → (wrong ≡ false) × (right ≡ true) × Zeros ns
 unfolding finding
@@ -87,12 +87,12 @@ check-case false false ns h = absurd (omega arith)
 pub checked-tells : (a : List ℕ) → checked a .number ≡ 0 → Readable a
 unfolding checked
 checked-tells a h =
-    let k : (wrongHeader a ≡ false) × (rightDirectory a ≡ true) × Zeros (numbersOf (partsOf a)) = check-case (wrongHeader a) (rightDirectory a) (numbersOf (partsOf a)) h in
+    let k : (wrongHeader a ≡ false) × (rightDirectory a ≡ true) × Zeros (numbersOf (isNew a) (partsOf a)) = check-case (wrongHeader a) (rightDirectory a) (numbersOf (isNew a) (partsOf a)) h in
     record { headed = k .0; directed = k .1; zeros = k .2 }
 
 pub readable-checked : (a : List ℕ) → Readable a → checked a ≡ finding 0 0
 unfolding checked
-readable-checked a r = rw (r .headed, r .directed) (none-refused 0 (numbersOf (partsOf a)) (r .zeros))
+readable-checked a r = rw (r .headed, r .directed) (none-refused 0 (numbersOf (isNew a) (partsOf a)) (r .zeros))
 
 pub accepted-sizes : (a : List ℕ) (c : Checked) → c ≡ checked a → c .number ≡ 0 → Measured a
 accepted-sizes a c e z = measured a (checked-tells a (cc) .headed)

@@ -25,9 +25,9 @@ number-case n true true e h = absurd (omega arith)
 number-case n true false e h = (eqb-true n 0 e, refl)
 number-case n false m e h = absurd (eqb-false n 0 e h)
 
-pub number-parts : (ends final : Bool) (e : List ℕ) → numberIn ends final e ≡ 0 → (formNumber e ≡ 0) × (misplaced ends final e ≡ false)
+pub number-parts : (new : Bool) (ends final : Bool) (e : List ℕ) → numberIn new ends final e ≡ 0 → (formNumber new e ≡ 0) × (misplaced ends final e ≡ false)
 unfolding numberIn
-number-parts ends final e h = number-case (formNumber e) (eqb (formNumber e) 0) (misplaced ends final e) refl h
+number-parts new ends final e h = number-case (formNumber new e) (eqb (formNumber new e) 0) (misplaced ends final e) refl h
 
 -- ---- its place
 

@@ -129,9 +129,9 @@ module _ (year : ℕ) where
       ∙ ap (λ q. sheetAfter (grid (f q)) (q .ledger) es) h
       ∙ same-grid (λ i m. next i m (cellAt (grid (f (posted l e))) i m)) (λ i m. next i m (f (posted l e) i m)) (λ i m a b. ap (next i m) (cell-grid (f (posted l e)) i m a b))
 
-  pub after-all : (s : List (List Units)) (l : Ledger) (es : List (List ℕ)) → s ≡ grid (λ i m. noBank) → l ≡ fresh → sheetAfter s l es ≡ grid (λ i m. cellAfter year i m noBank fresh es)
+  pub after-all : (new : Bool) (s : List (List Units)) (l : Ledger) (es : List (List ℕ)) → s ≡ grid (λ i m. noBank) → l ≡ fresh new → sheetAfter s l es ≡ grid (λ i m. cellAfter year i m noBank (fresh new) es)
   unfolding sheetAfter
-  after-all s l es e h =
+  after-all new s l es e h =
       let zeros : List (List Units) = grid (λ i m. noBank) in
       ap₂ (λ r k. sheetAfter r k es) e h
-      ∙ same-grid (λ i m. cellAfter year i m (cellAt zeros i m) fresh es) (λ i m. cellAfter year i m noBank fresh es) (λ i m a b. ap (λ x. cellAfter year i m x fresh es) (cell-grid (λ i m. noBank) i m a b))
+      ∙ same-grid (λ i m. cellAfter year i m (cellAt zeros i m) (fresh new) es) (λ i m. cellAfter year i m noBank (fresh new) es) (λ i m a b. ap (λ x. cellAfter year i m x (fresh new) es) (cell-grid (λ i m. noBank) i m a b))

@@ -15,6 +15,7 @@ pub mod Stretches
 pub mod Acceptance
 pub mod Packing
 pub mod Trips
+pub mod OldArchives
 pub mod Grids
 pub mod Replays
 pub mod ArchiveSizes

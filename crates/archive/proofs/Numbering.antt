@@ -12,39 +12,39 @@ use Rattle.archive.proofs.EntryLists.{entries-next, length-entries}
 use Rattle.archive.proofs.Findings.{last-one, refusal-past, refusal-within}
 use Rattle.archive.proofs.Pairs.{pairs-next, length-pairs}
 
-length-numbers : (final : Bool) (es : List (List ℕ)) → length (numbersIn final es) ≡ length es
+length-numbers : (new final : Bool) (es : List (List ℕ)) → length (numbersIn new final es) ≡ length es
 unfolding numbersIn
-length-numbers final [] = refl
-length-numbers final (e ∷ es) = ap suc (length-numbers final es)
+length-numbers new final [] = refl
+length-numbers new final (e ∷ es) = ap suc (length-numbers new final es)
 
-pub numbers-next : (final : Bool) (n k : ℕ) (s : List ℕ) → k < n
-    → numbersIn final (firstEntries (n - k) (drop (32 * k) s))
-    ≡ numberIn (eqb (k + 1) n) final (take (32 * k + 32 - 32 * k) (drop (32 * k) s)) ∷ numbersIn final (firstEntries (n - (k + 1)) (drop (32 * (k + 1)) s))
+pub numbers-next : (new final : Bool) (n k : ℕ) (s : List ℕ) → k < n
+    → numbersIn new final (firstEntries (n - k) (drop (32 * k) s))
+    ≡ numberIn new (eqb (k + 1) n) final (take (32 * k + 32 - 32 * k) (drop (32 * k) s)) ∷ numbersIn new final (firstEntries (n - (k + 1)) (drop (32 * (k + 1)) s))
 unfolding numbersIn
-numbers-next final n k s h = rw (entries-next n k s h, length-entries, last-one n k h)
+numbers-next new final n k s h = rw (entries-next n k s h, length-entries, last-one n k h)
 
-files-next : (a : List ℕ) (n i : ℕ) → i < n
-    → numbersOf (map (partAt a) (pairsFrom a i (n - i)))
-    ≡ numbersIn (eqb (i + 1) n) (entriesOf (partAt a (pairAt a i))) ++ numbersOf (map (partAt a) (pairsFrom a (i + 1) (n - (i + 1))))
+files-next : (new : Bool) (a : List ℕ) (n i : ℕ) → i < n
+    → numbersOf new (map (partAt a) (pairsFrom a i (n - i)))
+    ≡ numbersIn new (eqb (i + 1) n) (entriesOf (partAt a (pairAt a i))) ++ numbersOf new (map (partAt a) (pairsFrom a (i + 1) (n - (i + 1))))
 unfolding numbersOf
-files-next a n i h =
+files-next new a n i h =
     let last : eqb (length (map (partAt a) (pairsFrom a (i + 1) (n - (i + 1))))) 0 ≡ eqb (i + 1) n = rw (length-map, length-pairs, last-one n i h) in
     rw (pairs-next a n i h) (cc)
 
 -- ---- one section's turn
 
-module _ (a : List ℕ) (n i first : ℕ) (h : i < n) (r : Checked) where
+module _ (new : Bool) (a : List ℕ) (n i first : ℕ) (h : i < n) (r : Checked) where
   abbrev here : List ℕ
-  here = numbersIn (eqb (i + 1) n) (entriesOf (partAt a (pairAt a i)))
+  here = numbersIn new (eqb (i + 1) n) (entriesOf (partAt a (pairAt a i)))
 
   abbrev after : List ℕ
-  after = numbersOf (map (partAt a) (pairsFrom a (i + 1) (n - (i + 1))))
+  after = numbersOf new (map (partAt a) (pairsFrom a (i + 1) (n - (i + 1))))
 
-  pub section-refuses : r ≡ firstRefusal first here → (r .number ≡ 0 → ⊥) → r ≡ firstRefusal first (numbersOf (map (partAt a) (pairsFrom a i (n - i))))
-  section-refuses e k = cc (files-next a n i h, refusal-within first here after (λ z. k (cc)))
+  pub section-refuses : r ≡ firstRefusal first here → (r .number ≡ 0 → ⊥) → r ≡ firstRefusal first (numbersOf new (map (partAt a) (pairsFrom a i (n - i))))
+  section-refuses e k = cc (files-next new a n i h, refusal-within first here after (λ z. k (cc)))
 
-  pub section-passes : (l : ℕ) → length (partAt a (pairAt a i)) ≡ l → r ≡ firstRefusal first here → r .number ≡ 0 → firstRefusal (first + l / 32) after ≡ firstRefusal first (numbersOf (map (partAt a) (pairsFrom a i (n - i))))
+  pub section-passes : (l : ℕ) → length (partAt a (pairAt a i)) ≡ l → r ≡ firstRefusal first here → r .number ≡ 0 → firstRefusal (first + l / 32) after ≡ firstRefusal first (numbersOf new (map (partAt a) (pairsFrom a i (n - i))))
   unfolding entriesOf
   section-passes l s e k =
       let count : length here ≡ l / 32 = rw (length-numbers, length-entries, s) in
-      cc (files-next a n i h, refusal-past first here after (cc))
+      cc (files-next new a n i h, refusal-past first here after (cc))

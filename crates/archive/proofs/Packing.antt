@@ -2,15 +2,15 @@
 use native.Mathlib.Omega.{arith}
 use Prim.Native.Nat.{ℕ, _+_, _*_, _≤_}
 use mathlib.Core.Path.{_≡_, refl, sym, ap, _∙_}
-use mathlib.Core.Bool.{true, false}
+use mathlib.Core.Bool.{Bool, true, false}
 use mathlib.Core.List.{List, _++_, append-assoc}
 use lib.ListN.{length, take, drop, length-append, take-append-drop, length-map}
 use lib.Seq.{drop-at, take-add}
 use Rattle.archive.specs.Layout.{concatenated, header, directory, bodyAt, packed}
-use Rattle.archive.specs.Reading.{sectionCount, wrongHeader, pairsFrom, pairsOf, rightDirectory, partAt, partsOf, listOf}
+use Rattle.archive.specs.Reading.{sectionCount, isNew, wrongHeader, pairsFrom, pairsOf, rightDirectory, partAt, partsOf, listOf}
 use Rattle.archive.specs.RoundTrips.{Bytes}
 use Rattle.archive.proofs.Partitions.{Good}
-use Rattle.archive.proofs.Headers.{length-header, count-put, opening-put, zeros-put, Headed, headed-right, header-checked, header-again}
+use Rattle.archive.proofs.Headers.{length-header, count-put, opening-put, kind-put, zeros-put, Headed, headed-right, header-checked, header-again}
 use Rattle.archive.proofs.Directories.{pairsFor, length-directory, pairs-put, directory-again}
 use Rattle.archive.proofs.Pairs.{length-pairs}
 use Rattle.archive.proofs.Stretches.{right-for, parts-for, Parted, parted}
@@ -18,60 +18,63 @@ use Rattle.archive.proofs.Stretches.{right-for, parts-for, Parted, part
 -- ---- packed, then read
 
 -- all before the sections
-abbrev front : List (List ℕ) → List ℕ
-front ss = header (length ss) ++ directory (bodyAt (length ss)) ss
+abbrev front : Bool → List (List ℕ) → List ℕ
+front new ss = header new (length ss) ++ directory (bodyAt (length ss)) ss
 
-length-front : (ss : List (List ℕ)) → length (front ss) ≡ bodyAt (length ss)
+length-front : (new : Bool) (ss : List (List ℕ)) → length (front new ss) ≡ bodyAt (length ss)
 unfolding bodyAt
-length-front ss = length-append (header (length ss)) (directory (8 + 8 * length ss) ss) ∙ rw (length-header, length-directory)
+length-front new ss = length-append (header new (length ss)) (directory (8 + 8 * length ss) ss) ∙ rw (length-header, length-directory)
 
-pub length-packed : (ss : List (List ℕ)) → length (packed ss) ≡ bodyAt (length ss) + length (concatenated ss)
+pub length-packed : (new : Bool) (ss : List (List ℕ)) → length (packed new ss) ≡ bodyAt (length ss) + length (concatenated ss)
 unfolding packed
-length-packed ss = length-append (front ss) (concatenated ss) ∙ rw (length-front ss)
+length-packed new ss = length-append (front new ss) (concatenated ss) ∙ rw (length-front new ss)
 
 -- the header, then the rest
-headed-packed : (ss : List (List ℕ)) → packed ss ≡ header (length ss) ++ (directory (bodyAt (length ss)) ss ++ concatenated ss)
+headed-packed : (new : Bool) (ss : List (List ℕ)) → packed new ss ≡ header new (length ss) ++ (directory (bodyAt (length ss)) ss ++ concatenated ss)
 unfolding packed
-headed-packed ss = append-assoc (header (length ss)) (directory (bodyAt (length ss)) ss) (concatenated ss)
+headed-packed new ss = append-assoc (header new (length ss)) (directory (bodyAt (length ss)) ss) (concatenated ss)
 
-module _ (ss : List (List ℕ)) (good : Good ss) (few : length ss ≤ 1200) (short : length (packed ss) ≤ 4294967295) where
+pub kind-packed : (new : Bool) (ss : List (List ℕ)) → isNew (packed new ss) ≡ new
+kind-packed new ss = ap isNew (headed-packed new ss) ∙ kind-put new (length ss) (directory (bodyAt (length ss)) ss ++ concatenated ss)
+
+module _ (new : Bool) (ss : List (List ℕ)) (good : Good ss) (few : length ss ≤ 1200) (short : length (packed new ss) ≤ 4294967295) where
   abbrev rest : List ℕ
   rest = directory (bodyAt (length ss)) ss ++ concatenated ss
 
-  pub count-packed : sectionCount (packed ss) ≡ length ss
-  count-packed = ap sectionCount (headed-packed ss) ∙ count-put (length ss) rest (omega arith)
+  pub count-packed : sectionCount (packed new ss) ≡ length ss
+  count-packed = ap sectionCount (headed-packed new ss) ∙ count-put new (length ss) rest (omega arith)
 
-  pub header-packed : wrongHeader (packed ss) ≡ false
+  pub header-packed : wrongHeader (packed new ss) ≡ false
   unfolding bodyAt
   header-packed =
-      headed-right (packed ss)
+      headed-right (packed new ss)
       (record {
-        long = omega (arith, length-packed ss);
+        long = omega (arith, length-packed new ss);
         short = short;
-        opens = rw (headed-packed ss) (opening-put (length ss) rest);
-        six = rw (headed-packed ss) (zeros-put (length ss) rest .0);
-        seven = rw (headed-packed ss) (zeros-put (length ss) rest .1);
+        opens = rw (headed-packed new ss) (opening-put new (length ss) rest);
+        six = rw (headed-packed new ss) (zeros-put new (length ss) rest .0);
+        seven = rw (headed-packed new ss) (zeros-put new (length ss) rest .1);
         few = rw count-packed few;
-        room = rw count-packed (omega (arith, length-packed ss));
+        room = rw count-packed (omega (arith, length-packed new ss));
       })
 
-  pairs-packed : pairsOf (packed ss) ≡ pairsFor (bodyAt (length ss)) ss
+  pairs-packed : pairsOf (packed new ss) ≡ pairsFor (bodyAt (length ss)) ss
   unfolding pairsOf
   pairs-packed =
       rw count-packed
-      (pairs-put ss (packed ss) (header (length ss)) (concatenated ss) (bodyAt (length ss)) 0 (headed-packed ss) (length-header (length ss)) (omega (arith, length-packed ss)))
+      (pairs-put ss (packed new ss) (header new (length ss)) (concatenated ss) (bodyAt (length ss)) 0 (headed-packed new ss) (length-header new (length ss)) (omega (arith, length-packed new ss)))
 
-  pub directory-packed : rightDirectory (packed ss) ≡ true
+  pub directory-packed : rightDirectory (packed new ss) ≡ true
   unfolding rightDirectory
-  directory-packed = rw (count-packed, pairs-packed) (right-for ss (bodyAt (length ss)) (length (packed ss)) good (sym (length-packed ss)))
+  directory-packed = rw (count-packed, pairs-packed) (right-for ss (bodyAt (length ss)) (length (packed new ss)) good (sym (length-packed new ss)))
 
-  pub parts-packed : partsOf (packed ss) ≡ ss
+  pub parts-packed : partsOf (packed new ss) ≡ ss
   unfolding partsOf packed
-  parts-packed = rw pairs-packed (parts-for ss (packed ss) (front ss) (bodyAt (length ss)) refl (length-front ss))
+  parts-packed = rw pairs-packed (parts-for ss (packed new ss) (front new ss) (bodyAt (length ss)) refl (length-front new ss))
 
-  pub list-packed : listOf (packed ss) ≡ concatenated ss
+  pub list-packed : listOf (packed new ss) ≡ concatenated ss
   unfolding listOf packed
-  list-packed = rw count-packed (drop-at (front ss) (concatenated ss) (bodyAt (length ss)) (length-front ss))
+  list-packed = rw count-packed (drop-at (front new ss) (concatenated ss) (bodyAt (length ss)) (length-front new ss))
 
 -- ---- read, then packed
 
@@ -96,7 +99,7 @@ module _ (a : List ℕ) (right : rightDirectory a ≡ true) where
   unfolding partsOf pairsOf
   pairs-again = rw count-parts (in-parts .named)
 
-  pub packed-again : Bytes a → wrongHeader a ≡ false → packed (partsOf a) ≡ a
+  pub packed-again : Bytes a → wrongHeader a ≡ false → packed (isNew a) (partsOf a) ≡ a
   unfolding packed listOf bodyAt
   packed-again b w =
       let h : Headed a = header-checked a w in

@@ -1,5 +1,5 @@
 -- The bytes of an archive: a head, a directory of sections, and the sections.
-use Rattle.tariff.specs.Vocabulary.{ℕ, _+_, _*_, cond, List, [], _∷_, _++_, length}
+use Rattle.tariff.specs.Vocabulary.{ℕ, _+_, _*_, Bool, cond, List, [], _∷_, _++_, length}
 use Rattle.archive.specs.Words.{bytesOf}
 use Rattle.archive.specs.Entries.{entriesOf, closesMonth}
 
@@ -22,13 +22,13 @@ concatenated (s ∷ ss) = s ++ concatenated ss
 
 -- ---- the bytes
 
--- R70: the letters EFB1.
-abbrev pub openingBytes : List ℕ
-openingBytes = 69 ∷ 70 ∷ 66 ∷ 49 ∷ []
+-- R70 and R87: the letters EFB, then 1 in an old archive and 2 in a new one.
+abbrev pub openingBytes : Bool → List ℕ
+openingBytes new = 69 ∷ 70 ∷ 66 ∷ cond new 50 49 ∷ []
 
 -- R70: the first eight bytes.
-unfoldable pub header : ℕ → List ℕ
-header count = openingBytes ++ bytesOf 2 count ++ 0 ∷ 0 ∷ []
+unfoldable pub header : Bool → ℕ → List ℕ
+header new count = openingBytes new ++ bytesOf 2 count ++ 0 ∷ 0 ∷ []
 
 -- R70: a pair of offset and length for each section, each beginning where the one before ends.
 unfoldable pub directory : ℕ → List (List ℕ) → List ℕ
@@ -39,13 +39,13 @@ directory offset (s ∷ ss) = bytesOf 4 offset ++ bytesOf 4 (length s) ++ direct
 unfoldable pub bodyAt : ℕ → ℕ
 bodyAt count = 8 + 8 * count
 
--- R70: the archive of some sections.
-unfoldable pub packed : List (List ℕ) → List ℕ
-packed ss = header (length ss) ++ directory (bodyAt (length ss)) ss ++ concatenated ss
+-- R70: the archive of some sections, old or new; nothing but the fourth byte tells which (R87).
+unfoldable pub packed : Bool → List (List ℕ) → List ℕ
+packed new ss = header new (length ss) ++ directory (bodyAt (length ss)) ss ++ concatenated ss
 
 -- R70: the archive of a list.
-unfoldable pub archiveOf : List ℕ → List ℕ
-archiveOf list = packed (sectionsOf (entriesOf list))
+unfoldable pub archiveOf : Bool → List ℕ → List ℕ
+archiveOf new list = packed new (sectionsOf (entriesOf list))
 
 -- R71 and R75: room for every month of 2000 to 2099.
 abbrev pub mostSections : ℕ

@@ -1,5 +1,5 @@
 -- The reader: it checks a whole file before it gives any part of it.
-use Rattle.tariff.specs.Vocabulary.{ℕ, zero, suc, _+_, _*_, _%_, Bool, cond, not, _&&_, _||_, eqb, ltb, List, [], _∷_, _++_, map, length, getD, take, drop}
+use Rattle.tariff.specs.Vocabulary.{ℕ, zero, suc, _+_, _*_, _%_, Bool, true, false, cond, not, _&&_, _||_, eqb, ltb, List, [], _∷_, _++_, map, length, getD, take, drop}
 use Rattle.archive.specs.Structs.{Checked, Place}
 use Rattle.ledger.specs.Forms.{formNumber}
 use Rattle.ledger.specs.Entries.{halfAt, wordAt}
@@ -12,13 +12,21 @@ use Rattle.archive.specs.Layout.{mostBytes, mostSections, openingBytes, 
 unfoldable pub sectionCount : List ℕ → ℕ
 sectionCount a = halfAt a 4
 
--- R71: the first four bytes.
+-- R71: the first four bytes are those of an old archive, or of a new one.
+unfoldable pub opensAs : Bool → List ℕ → Bool
+opensAs new a =
+    eqb (getD a 0 0) (getD (openingBytes new) 0 0)
+    && eqb (getD a 1 0) (getD (openingBytes new) 1 0)
+    && eqb (getD a 2 0) (getD (openingBytes new) 2 0)
+    && eqb (getD a 3 0) (getD (openingBytes new) 3 0)
+
+-- R71: either will do.
 unfoldable pub rightOpening : List ℕ → Bool
-rightOpening a =
-    eqb (getD a 0 0) (getD openingBytes 0 0)
-    && eqb (getD a 1 0) (getD openingBytes 1 0)
-    && eqb (getD a 2 0) (getD openingBytes 2 0)
-    && eqb (getD a 3 0) (getD openingBytes 3 0)
+rightOpening a = opensAs false a || opensAs true a
+
+-- R87: an archive is new by its first four bytes, whatever follows; this is asked of refused ones too, and of fewer bytes.
+unfoldable pub isNew : List ℕ → Bool
+isNew a = opensAs true a
 
 -- R71: everything that gets 8; past it the whole directory lies in the file.
 unfoldable pub wrongHeader : List ℕ → Bool
@@ -76,26 +84,26 @@ unfoldable pub misplaced : Bool → Bool → List ℕ → Bool
 misplaced ends final e = cond (closesMonth e) (not ends) (ends && not final)
 
 -- R73: the number of an entry, 2 to 7 before 10.
-unfoldable pub numberIn : Bool → Bool → List ℕ → ℕ
-numberIn ends final e = cond (eqb (formNumber e) 0) (cond (misplaced ends final e) 10 0) (formNumber e)
+unfoldable pub numberIn : Bool → Bool → Bool → List ℕ → ℕ
+numberIn new ends final e = cond (eqb (formNumber new e) 0) (cond (misplaced ends final e) 10 0) (formNumber new e)
 
 -- R73: the numbers of a section's entries.
-unfoldable pub numbersIn : Bool → List (List ℕ) → List ℕ
-numbersIn final [] = []
-numbersIn final (e ∷ es) = numberIn (eqb (length es) 0) final e ∷ numbersIn final es
+unfoldable pub numbersIn : Bool → Bool → List (List ℕ) → List ℕ
+numbersIn new final [] = []
+numbersIn new final (e ∷ es) = numberIn new (eqb (length es) 0) final e ∷ numbersIn new final es
 
 -- R73: and of all sections, in file order.
-unfoldable pub numbersOf : List (List ℕ) → List ℕ
-numbersOf [] = []
-numbersOf (s ∷ ss) = numbersIn (eqb (length ss) 0) (entriesOf s) ++ numbersOf ss
+unfoldable pub numbersOf : Bool → List (List ℕ) → List ℕ
+numbersOf new [] = []
+numbersOf new (s ∷ ss) = numbersIn new (eqb (length ss) 0) (entriesOf s) ++ numbersOf new ss
 
 -- ---- the reader's answers
 
--- R73: 8, then 9, then the first entry at fault.
+-- R73: 8, then 9, then the first entry at fault, by the rules that the archive says it is of (R87).
 unfoldable pub checked : List ℕ → Checked
 checked a =
     cond (wrongHeader a) (finding 8 0)
-    (cond (rightDirectory a) (firstRefusal 0 (numbersOf (partsOf a)))
+    (cond (rightDirectory a) (firstRefusal 0 (numbersOf (isNew a) (partsOf a)))
     (finding 9 0))
 
 -- R74: a refusal gives an empty part.

@@ -1,12 +1,12 @@
 -- An archive's entries posted in order to a fresh ledger; those that it refuses are in the archive too, and are refused again.
 use Rattle.tariff.specs.Vocabulary.{ℕ, _+_, _<_, Bool, cond, eqb, List, [], _∷_, _≡_}
-use Rattle.archive.specs.Structs.{Figures, Replay}
+use Rattle.archive.specs.Structs.{Figures, Ledger, Replay}
 use Rattle.ledger.specs.State.{fresh}
 use Rattle.ledger.specs.Panel.{bankOf, panelOf}
 use Rattle.ledger.specs.Running.{Line, history, run, isAccepted}
 use Rattle.history.specs.History.{accepted, start, total, billed, violated, bankSum, figureSum, owedOf, daysOf, remaining, postingsOf}
 use Rattle.archive.specs.Entries.{entriesOf}
-use Rattle.archive.specs.Reading.{checked, listOf}
+use Rattle.archive.specs.Reading.{checked, isNew, listOf}
 
 -- R77: the list in an archive, an empty one if the archive is refused.
 unfoldable pub listIn : List ℕ → List ℕ
@@ -15,6 +15,10 @@ listIn a = cond (eqb (checked a .number) 0) (listOf a) []
 -- R77: its entries.
 unfoldable pub entriesIn : List ℕ → List (List ℕ)
 entriesIn a = entriesOf (listIn a)
+
+-- R77 and R87: the ledger that they are posted to: new where the archive is.
+unfoldable pub freshFor : List ℕ → Ledger
+freshFor a = fresh (isNew a)
 
 -- R77: a count over postings, each as 1 or 0.
 unfoldable pub countOf : (Line → ℕ) → List Line → ℕ
@@ -34,9 +38,9 @@ replayed a =
     record {
       number = checked a .number;
       index = checked a .index;
-      accepted = countOf asAccepted (history fresh (entriesIn a));
-      refused = countOf asRefused (history fresh (entriesIn a));
-      ledger = run fresh (entriesIn a);
+      accepted = countOf asAccepted (history (freshFor a) (entriesIn a));
+      refused = countOf asRefused (history (freshFor a) (entriesIn a));
+      ledger = run (freshFor a) (entriesIn a);
     }
 
 -- R77: the same with the panel's figure for the ledger, which is what the panel program prints (R81).
@@ -54,7 +58,7 @@ figuresOf a =
 
 -- R78: the accepted postings of an archive.
 abbrev pub acceptedOf : List ℕ → List Line
-acceptedOf a = accepted (history fresh (entriesIn a))
+acceptedOf a = accepted (history (freshFor a) (entriesIn a))
 
 -- R78: R63, of banks and of the figure.
 abbrev pub BanksAddUp : Type 0
@@ -74,5 +78,5 @@ DaysAddUp = (a : List ℕ) (i : ℕ) → i < 16 → daysOf (replayed a .ledger) 
 abbrev pub StrikingChangesNothing : Type 0
 StrikingChangesNothing =
     (a : List ℕ) (marks : List Bool)
-    → (history fresh (postingsOf (remaining marks (history fresh (entriesIn a)))) ≡ remaining marks (history fresh (entriesIn a)))
-    × (run fresh (postingsOf (remaining marks (history fresh (entriesIn a)))) ≡ replayed a .ledger)
+    → (history (freshFor a) (postingsOf (remaining marks (history (freshFor a) (entriesIn a)))) ≡ remaining marks (history (freshFor a) (entriesIn a)))
+    × (run (freshFor a) (postingsOf (remaining marks (history (freshFor a) (entriesIn a)))) ≡ replayed a .ledger)

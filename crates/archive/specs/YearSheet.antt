@@ -3,11 +3,10 @@ use Rattle.tariff.specs.Vocabulary.{ℕ, zero, suc, _+_, pos, Bool, cond, _&&_,
 use Rattle.archive.specs.Structs.{Date, Ledger, Units}
 use Rattle.tariff.specs.Months.{gasMonth}
 use Rattle.ledger.specs.Entries.{entryOf}
-use Rattle.ledger.specs.State.{fresh}
 use Rattle.ledger.specs.Posting.{posted}
 use Rattle.ledger.specs.Panel.{bankOf}
 use Rattle.archive.specs.Entries.{closesMonth}
-use Rattle.archive.specs.Replay.{entriesIn}
+use Rattle.archive.specs.Replay.{entriesIn, freshFor}
 
 -- R79: f of 0, 1, up to n − 1.
 unfoldable pub upTo : {A : Type 0} → ℕ → (ℕ → A) → List A
@@ -47,4 +46,4 @@ cellAfter y i m x l (e ∷ es) =
 
 -- R79: the sheet; of a refused archive it is all zeros, as no entries are posted.
 unfoldable pub sheetOf : List ℕ → ℕ → List (List Units)
-sheetOf a y = grid (λ i m. cellAfter y i m noBank fresh (entriesIn a))
+sheetOf a y = grid (λ i m. cellAfter y i m noBank (freshFor a) (entriesIn a))

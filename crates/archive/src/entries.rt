@@ -23,15 +23,15 @@ pub fn closes_month(entry: &[u8]) -> bool
     entry[0] == CLOSE_MONTH
 }
 
-// The first entry of a list that gets a number by itself.
-pub fn check_list(list: &[u8]) -> Checked
-    ensures { λ r. ⌜ r ≡ listChecked (now (list .entry)) ⌝ }
+// The first entry of a list, old or new, that gets a number by itself.
+pub fn check_list(is_new: bool, list: &[u8]) -> Checked
+    ensures { λ r. ⌜ r ≡ listChecked «is_new» (now (list .entry)) ⌝ }
 {
     let n = list.len() / 32;
     for k in 0..n {
         let at = 32 * k;
         let end = at + 32;
-        let number = ledger::entry_number(&list[at..end]);
+        let number = ledger::entry_number(is_new, &list[at..end]);
         if number != 0 {
             return Checked { number, index: k };
         }

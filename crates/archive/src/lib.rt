@@ -1,5 +1,6 @@
 // The archive: what is opened in thirty years.
 mod entries;
+mod opening;
 mod reading;
 mod replaying;
 mod sections;
@@ -17,11 +18,12 @@ ghost use mathlib.Core.Path.{_≡_};
 ghost use Prim.Native.Nat.{_+_, _≤_};
 ghost use lib.ListN.{length};
 ghost use Rattle.archive.specs.Writing.{written, outputAfter};
-ghost use Rattle.archive.specs.Reading.{checked, placeOf, sectionAt};
+ghost use Rattle.archive.specs.Reading.{isNew, checked, placeOf, sectionAt};
 ghost use Rattle.archive.specs.Replay.{replayed, figuresOf, BanksAddUp, FigureAddsUp, DebtsAddUp, DaysAddUp, StrikingChangesNothing};
 ghost use Rattle.archive.specs.YearSheet.{sheetOf};
-ghost use Rattle.archive.specs.RoundTrips.{ReadsBack, WritesBack};
+ghost use Rattle.archive.specs.RoundTrips.{ReadsBack, WritesBack, FourthByteTells, OldIsNotNew, OldKindsOnly};
 ghost use Rattle.archive.specs.WorkedCases.{WorkedCases};
+use crate::opening::opens_as;
 use crate::reading::check_sections;
 use crate::reading::list_in;
 use crate::reading::nowhere;
@@ -35,16 +37,26 @@ use crate::writing::plan;
 use crate::writing::put_archive;
 use tariff::amounts::Units;
 
-// The archive of a list of entries, at the start of the output.
-pub fn write(list: &[u8], out: &mut [u8]) -> Written
-    ensures answer { λ r. ⌜ r ≡ written (now (list .entry)) (length (now (out .entry))) ⌝ }
-    ensures output { λ _. ⌜ now (out .exit) ≡ outputAfter (now (list .entry)) (now (out .entry)) ⌝ }
+// The archive of a list of entries, old or new, at the start of the output.
+pub fn write(is_new: bool, list: &[u8], out: &mut [u8]) -> Written
+    ensures answer { λ r. ⌜ r ≡ written «is_new» (now (list .entry)) (length (now (out .entry))) ⌝ }
+    ensures output { λ _. ⌜ now (out .exit) ≡ outputAfter «is_new» (now (list .entry)) (now (out .entry)) ⌝ }
 {
-    let w = plan(list, out.len());
+    let w = plan(is_new, list, out.len());
     if w.number == 0 {
-        put_archive(out, list);
+        put_archive(is_new, out, list);
     }
     w
+}
+
+// Whether an archive is new: its first four bytes tell, whatever follows them.
+pub fn is_new(archive: &[u8]) -> bool
+    ensures { λ r. ⌜ r ≡ isNew (now (archive .entry)) ⌝ }
+{
+    if archive.len() < 4 {
+        return false;
+    }
+    opens_as(true, archive)
 }
 
 // What is wrong with an archive, and at which entry; 0 and 0 where nothing is.
@@ -63,7 +75,7 @@ pub fn check(archive: &[u8]) -> Checked
             index: 0,
         };
     }
-    check_sections(archive)
+    check_sections(is_new(archive), archive)
 }
 
 // Where section i lies.
@@ -107,13 +119,13 @@ pub fn section<'a, 'n, 'i>(
     &archive[start..end]
 }
 
-// The entries of an archive posted in order to a fresh ledger.
+// The entries of an archive posted in order to a fresh ledger, old or new as the archive is.
 pub fn replay(archive: &[u8]) -> Replay
     ensures { λ r. ⌜ r ≡ replayed (now (archive .entry)) ⌝ }
 {
     let c = check(archive);
     let list = list_in(archive, c.number);
-    post_all(list, c)
+    post_all(is_new(archive), list, c)
 }
 
 // Accepted count, refused count and panel figure.
@@ -138,13 +150,20 @@ pub fn year_sheet(archive: &[u8], year: u64) -> [[Units; 12]; 16]
 {
     let c = check(archive);
     let list = list_in(archive, c.number);
-    sheet_of(list, year)
+    sheet_of(is_new(archive), list, year)
 }
 
 // R76, of every list and every archive: specs/RoundTrips.antt has both directions in words.
 pub fn round_trips()
     ensures reads_back { λ r. ⌜ ReadsBack ⌝ }
     ensures writes_back { λ r. ⌜ WritesBack ⌝ }
+{}
+
+// R84 and R87: which archives are old and which are new, and that old ones have old kinds only.
+pub fn old_and_new()
+    ensures fourth_byte { λ r. ⌜ FourthByteTells ⌝ }
+    ensures apart { λ r. ⌜ OldIsNotNew ⌝ }
+    ensures kinds { λ r. ⌜ OldKindsOnly ⌝ }
 {}
 
 // R78: what `history::every_history` claims of every list holds of the entries that an archive holds.

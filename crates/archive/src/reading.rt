@@ -4,10 +4,11 @@ ghost use mathlib.Core.Bool.{true, false};
 ghost use Prim.Native.Nat.{_+_, _*_, _%_, _≤_, _<_};
 ghost use lib.ListN.{length};
 ghost use Rattle.archive.specs.Entries.{entriesOf, firstRefusal};
-ghost use Rattle.archive.specs.Reading.{sectionCount, rightOpening, wrongHeader, rightDirectory, misplaced, numberIn, numbersIn, numbersOf, partsOf, nowhere, checked};
+ghost use Rattle.archive.specs.Reading.{sectionCount, wrongHeader, rightDirectory, misplaced, numberIn, numbersIn, numbersOf, partsOf, nowhere, checked};
 ghost use Rattle.archive.specs.Replay.{listIn};
 use crate::entries::Checked;
 use crate::entries::closes_month;
+use crate::opening::opens_as;
 use crate::sections::MOST_BYTES;
 use crate::sections::MOST_SECTIONS;
 use crate::words::half;
@@ -41,13 +42,6 @@ pub fn section_count(archive: &[u8]) -> usize
     half(archive, 4)
 }
 
-fn right_opening(archive: &[u8]) -> bool
-    requires { ⌜ 8 ≤ length (now archive) ⌝ }
-    ensures { λ r. ⌜ r ≡ rightOpening (now (archive .entry)) ⌝ }
-{
-    (archive[0] == 69) & (archive[1] == 70) & (archive[2] == 66) & (archive[3] == 49)
-}
-
 // Number 8.
 pub fn wrong_header(archive: &[u8]) -> bool
     ensures { λ r. ⌜ r ≡ wrongHeader (now (archive .entry)) ⌝ }
@@ -58,7 +52,7 @@ pub fn wrong_header(archive: &[u8]) -> bool
     }
     let count = section_count(archive);
     (MOST_BYTES < n)
-        | !right_opening(archive)
+        | !(opens_as(false, archive) | opens_as(true, archive))
         | !(archive[6] == 0)
         | !(archive[7] == 0)
         | (MOST_SECTIONS < count)
@@ -85,11 +79,11 @@ pub fn right_directory(archive: &[u8]) -> bool
 }
 
 // The number of an entry in its place: 2 to 7, then 10.
-fn number_in(ends: bool, last: bool, entry: &[u8]) -> u64
+fn number_in(is_new: bool, ends: bool, last: bool, entry: &[u8]) -> u64
     requires { ⌜ 0 < length (now entry) ⌝ }
-    ensures { λ r. ⌜ r ≡ numberIn ends last (now (entry .entry)) ⌝ }
+    ensures { λ r. ⌜ r ≡ numberIn «is_new» ends last (now (entry .entry)) ⌝ }
 {
-    let number = ledger::entry_number(entry);
+    let number = ledger::entry_number(is_new, entry);
     if number != 0 {
         return number;
     }
@@ -103,16 +97,16 @@ fn number_in(ends: bool, last: bool, entry: &[u8]) -> u64
 }
 
 // The first entry of a section that gets a number; the section's first entry has the index `first`.
-fn check_section(section: &[u8], first: usize, last: bool) -> Checked
+fn check_section(is_new: bool, section: &[u8], first: usize, last: bool) -> Checked
     requires { ⌜ (length (now section) % 32 ≡ 0) × (first ≤ 1000000000000) ⌝ }
-    ensures { λ r. ⌜ r ≡ firstRefusal first (numbersIn last (entriesOf (now (section .entry)))) ⌝ }
+    ensures { λ r. ⌜ r ≡ firstRefusal first (numbersIn «is_new» last (entriesOf (now (section .entry)))) ⌝ }
 {
     let n = section.len() / 32;
     for k in 0..n {
         let at = 32 * k;
         let end = at + 32;
         let ends = k + 1 == n;
-        let number = number_in(ends, last, &section[at..end]);
+        let number = number_in(is_new, ends, last, &section[at..end]);
         if number != 0 {
             return Checked {
                 number,
@@ -126,10 +120,10 @@ fn check_section(section: &[u8], first: usize, last: bool) -> Checked
     }
 }
 
-// The first entry of the file that gets a number.
-pub fn check_sections(archive: &[u8]) -> Checked
+// The first entry of the file that gets a number, the file being old or new.
+pub fn check_sections(is_new: bool, archive: &[u8]) -> Checked
     requires { ⌜ (wrongHeader (now archive) ≡ false) × (rightDirectory (now archive) ≡ true) ⌝ }
-    ensures { λ r. ⌜ r ≡ firstRefusal 0 (numbersOf (partsOf (now (archive .entry)))) ⌝ }
+    ensures { λ r. ⌜ r ≡ firstRefusal 0 (numbersOf «is_new» (partsOf (now (archive .entry)))) ⌝ }
 {
     let count = section_count(archive);
     let mut first = 0;
@@ -138,7 +132,7 @@ pub fn check_sections(archive: &[u8]) -> Checked
         let length = word(archive, 12 + 8 * i);
         let end = start + length;
         let last = i + 1 == count;
-        let c = check_section(&archive[start..end], first, last);
+        let c = check_section(is_new, &archive[start..end], first, last);
         if c.number != 0 {
             return c;
         }

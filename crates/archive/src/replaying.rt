@@ -41,15 +41,15 @@ fn counted(number: u64) -> u64
     0
 }
 
-// The counts and the ledger after every entry of a list, beside what was found of the archive that it stands in.
-pub fn post_all(list: &[u8], found: Checked) -> Replay
+// The counts and the ledger after every entry of an old list or a new one, beside what was found of the archive that it stands in.
+pub fn post_all(is_new: bool, list: &[u8], found: Checked) -> Replay
     ensures number { λ r. ⌜ (r .number ≡ found .number) × (r .index ≡ found .index) ⌝ }
-    ensures accepted { λ r. ⌜ r .accepted ≡ countOf asAccepted (history fresh (entriesOf (now (list .entry)))) ⌝ }
-    ensures refused { λ r. ⌜ r .refused ≡ countOf asRefused (history fresh (entriesOf (now (list .entry)))) ⌝ }
-    ensures ledger { λ r. ⌜ r .ledger ≡ run fresh (entriesOf (now (list .entry))) ⌝ }
+    ensures accepted { λ r. ⌜ r .accepted ≡ countOf asAccepted (history (fresh «is_new») (entriesOf (now (list .entry)))) ⌝ }
+    ensures refused { λ r. ⌜ r .refused ≡ countOf asRefused (history (fresh «is_new») (entriesOf (now (list .entry)))) ⌝ }
+    ensures ledger { λ r. ⌜ r .ledger ≡ run (fresh «is_new») (entriesOf (now (list .entry))) ⌝ }
 {
     let n = list.len() / 32;
-    let mut ledger = ledger::fresh();
+    let mut ledger = ledger::fresh(is_new);
     let mut accepted = 0;
     let mut refused = 0;
     for k in 0..n {

@@ -50,12 +50,12 @@ fn with_column(sheet: [[Units; 12]; 16], ledger: Ledger, month: usize) -> [[Unit
     next
 }
 
-// The sheet of a list of entries posted to a fresh ledger.
-pub fn sheet_of(list: &[u8], year: u64) -> [[Units; 12]; 16]
-    ensures { λ r. ⌜ r ≡ grid (λ i m. cellAfter year i m noBank fresh (entriesOf (now (list .entry)))) ⌝ }
+// The sheet of an old list of entries, or a new one, posted to a fresh ledger.
+pub fn sheet_of(is_new: bool, list: &[u8], year: u64) -> [[Units; 12]; 16]
+    ensures { λ r. ⌜ r ≡ grid (λ i m. cellAfter year i m noBank (fresh «is_new») (entriesOf (now (list .entry)))) ⌝ }
 {
     let n = list.len() / 32;
-    let mut ledger = ledger::fresh();
+    let mut ledger = ledger::fresh(is_new);
     let mut sheet = empty_sheet();
     for k in 0..n {
         let at = 32 * k;

@@ -8,6 +8,7 @@ ghost use Rattle.archive.specs.Entries.{entriesOf};
 ghost use Rattle.archive.specs.Layout.{mostBytes, mostSections, sectionsOf, header, directory, bodyAt, archiveOf};
 ghost use Rattle.archive.specs.Writing.{unwritten, written};
 use crate::entries::check_list;
+use crate::opening::fourth_byte;
 use crate::sections::MOST_BYTES;
 use crate::sections::MOST_SECTIONS;
 use crate::sections::count_sections;
@@ -33,14 +34,14 @@ fn unwritten(number: u64, index: usize) -> Written
 }
 
 // What the writer answers, given the length of the output.
-pub fn plan(list: &[u8], room: usize) -> Written
-    ensures { λ r. ⌜ r ≡ written (now (list .entry)) room ⌝ }
+pub fn plan(is_new: bool, list: &[u8], room: usize) -> Written
+    ensures { λ r. ⌜ r ≡ written «is_new» (now (list .entry)) room ⌝ }
 {
     let n = list.len();
     if n % 32 != 0 {
         return unwritten(1, 0);
     }
-    let c = check_list(list);
+    let c = check_list(is_new, list);
     if c.number != 0 {
         return unwritten(c.number, c.index);
     }
@@ -65,14 +66,14 @@ pub fn plan(list: &[u8], room: usize) -> Written
     }
 }
 
-fn put_header(out: &mut [u8], count: usize)
+fn put_header(is_new: bool, out: &mut [u8], count: usize)
     requires { ⌜ 8 ≤ length (now out) ⌝ }
-    ensures { λ _. ⌜ now (out .exit) ≡ paste (now (out .entry)) 0 (header count) 8 ⌝ }
+    ensures { λ _. ⌜ now (out .exit) ≡ paste (now (out .entry)) 0 (header «is_new» count) 8 ⌝ }
 {
     out[0] = 69;
     out[1] = 70;
     out[2] = 66;
-    out[3] = 49;
+    out[3] = fourth_byte(is_new);
     out[4] = (count % 256) as u8;
     out[5] = (count / 256 % 256) as u8;
     out[6] = 0;
@@ -122,13 +123,13 @@ fn put_sections(out: &mut [u8], list: &[u8], body: usize)
 }
 
 // The archive of a list that `plan` accepts, at the start of the output.
-pub fn put_archive(out: &mut [u8], list: &[u8])
-    requires { ⌜ written (now list) (length (now out)) .number ≡ 0 ⌝ }
-    ensures { λ _. ⌜ now (out .exit) ≡ archiveOf (now (list .entry)) ++ drop (length (archiveOf (now (list .entry)))) (now (out .entry)) ⌝ }
+pub fn put_archive(is_new: bool, out: &mut [u8], list: &[u8])
+    requires { ⌜ written «is_new» (now list) (length (now out)) .number ≡ 0 ⌝ }
+    ensures { λ _. ⌜ now (out .exit) ≡ archiveOf «is_new» (now (list .entry)) ++ drop (length (archiveOf «is_new» (now (list .entry)))) (now (out .entry)) ⌝ }
 {
     let count = count_sections(list);
     let body = 8 + 8 * count;
-    put_header(out, count);
+    put_header(is_new, out, count);
     put_directory(out, list, count);
     put_sections(out, list, body);
 }

@@ -11,7 +11,7 @@ use Rattle.ledger.specs.Panel.{openBank, bankOf}
 use Rattle.ledger.proofs.ClosedAccounts.{openOwed, openDays}
 use Rattle.ledger.proofs.OneStep.{Sound}
 
-fresh-account : (new : Bool) (i : ℕ) → accountAt (fresh new) i ≡ nobody
+pub fresh-account : (new : Bool) (i : ℕ) → accountAt (fresh new) i ≡ nobody
 unfolding accountAt fresh
 fresh-account new i = same 16 i
   where

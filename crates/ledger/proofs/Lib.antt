@@ -17,4 +17,6 @@ pub mod EveryPosting
 pub mod FreshLedger
 pub mod Figures
 pub mod Fields
+pub mod OldKinds
+pub mod OldLedgers
 pub mod LentPosting

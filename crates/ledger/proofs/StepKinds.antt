@@ -60,7 +60,7 @@ module _ (l : Ledger) (e : Entry) where
   unfolding termsNext termsOf
   next-rate = refl
 
-  account-reworked : (i : ℕ) → accountAt (termsNext l e) i ≡ reworked (termsOf e) (accountAt l i)
+  pub account-reworked : (i : ℕ) → accountAt (termsNext l e) i ≡ reworked (termsOf e) (accountAt l i)
   unfolding accountAt termsNext
   account-reworked i =
       ap (λ (d : Account). getD (map (reworked (termsOf e)) (l .accounts)) i d) (sym nobody-reworked)

@@ -22,4 +22,5 @@ pub mod Days
 pub mod Posting
 pub mod Panel
 pub mod Running
+pub mod OldAndNew
 pub mod MarkedCases

@@ -36,6 +36,7 @@ ghost use Rattle.ledger.specs.Forms.{formNumber};
 ghost use Rattle.ledger.specs.State.{fresh};
 ghost use Rattle.ledger.specs.Posting.{posted};
 ghost use Rattle.ledger.specs.Panel.{bankOf, panelOf};
+ghost use Rattle.ledger.specs.OldAndNew.{KeepsWhich, NineKinds, StaysAsBefore, ForfeitsByRule};
 ghost use Rattle.ledger.specs.MarkedCases.{MarkedCases};
 use crate::answers::answered;
 use crate::entries::decode;
@@ -168,6 +169,14 @@ pub fn bank(ledger: Ledger, account: usize) -> Units
     let a = ledger.accounts[account];
     open_bank(a)
 }
+
+// R84 to R88: specs/OldAndNew.antt has each claim in words.
+pub fn old_stays_old()
+    ensures kept { λ r. ⌜ KeepsWhich ⌝ }
+    ensures nine_kinds { λ r. ⌜ NineKinds ⌝ }
+    ensures as_before { λ r. ⌜ StaysAsBefore ⌝ }
+    ensures forfeits { λ r. ⌜ ForfeitsByRule ⌝ }
+{}
 
 // R67: cases worked out in advance hold of postings to a fresh ledger, old or new, as one group.
 pub fn marked_cases()

@@ -5,7 +5,7 @@ use Prim.Native.Nat.{ℕ}
 use mathlib.Core.Bool.{Bool, true, false, not}
 use mathlib.Core.List.{List}
 use mathlib.Core.Path.{_≡_}
-use Rattle.archive.specs.Reading.{wrongHeader, rightDirectory, numbersOf, partsOf, checked}
+use Rattle.archive.specs.Reading.{isNew, wrongHeader, rightDirectory, numbersOf, partsOf, checked}
 use Rattle.archive.specs.Entries.{finding, firstRefusal}
 use Rattle.archive.specs.Structs.{Checked}
 use Rattle.archive.proofs.check.Statement.{statement}
@@ -24,9 +24,9 @@ module _ (a : List ℕ) (wrong : Bool) (w : wrong ≡ wrongHeader a) where
     unfolding checked finding
     directory-wrong t = cc (not-true right t)
 
-    entries-checked : not right ≡ false → (c : Checked) → c ≡ firstRefusal 0 (numbersOf (partsOf a)) → c ≡ checked a
+    entries-checked : not right ≡ false → (new : Bool) → new ≡ isNew a → (c : Checked) → c ≡ firstRefusal 0 (numbersOf new (partsOf a)) → c ≡ checked a
     unfolding checked
-    entries-checked t c e = cc (not-false right t)
+    entries-checked t new n c e = cc (not-false right t)
 
 pub check-spec : {M : Type 1} → statement M
 check-spec =
@@ -36,5 +36,6 @@ check-spec =
     (λ c. search header-wrong)
     (λ c κs. cc)
     (λ c. search directory-wrong)
+    (λ c κs. search needs)
     (λ c κs. (cc, search directory-right))
     (λ c. search entries-checked))

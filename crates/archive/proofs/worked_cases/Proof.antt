@@ -1,6 +1,7 @@
 -- Every case but one is computed from the definitions. A list of 1,201 closings is too long for that: each of its entries is a section of its own, whatever their number.
 use Prim.Native.Nat.{ℕ, zero, suc, _+_, _*_, _/_, _%_, _<_}
 use mathlib.Core.Path.{_≡_, refl, ap, _∙_}
+use mathlib.Core.Bool.{Bool, false, true}
 use mathlib.Core.List.{List, _∷_, map}
 use native.Mathlib.Omega.{arith}
 use borrow.Author.Tests.{lt-ltb}
@@ -28,9 +29,9 @@ use Rattle.archive.specs.Words.{bytesOf}
 use Rattle.archive.specs.Entries.{firstEntries, entriesOf, closesMonth, finding, firstRefusal}
 use Rattle.archive.specs.Layout.{joined, sectionsOf, concatenated, header, directory, bodyAt, packed, archiveOf}
 use Rattle.archive.specs.Writing.{listChecked, tooLarge, unwritten, written, outputAfter}
-use Rattle.archive.specs.Reading.{sectionCount, rightOpening, wrongHeader, pairAt, pairsFrom, pairsOf, rightLength, rightPairs, rightDirectory, partAt, partsOf, misplaced, numberIn, numbersIn, numbersOf, checked, nowhere, placeOf, sectionAt, listOf}
-use Rattle.archive.specs.Replay.{listIn, entriesIn, countOf, asAccepted, asRefused, replayed, figuresOf}
-use Rattle.archive.specs.WorkedCases.{closings, WorkedCases}
+use Rattle.archive.specs.Reading.{sectionCount, opensAs, rightOpening, isNew, wrongHeader, pairAt, pairsFrom, pairsOf, rightLength, rightPairs, rightDirectory, partAt, partsOf, misplaced, numberIn, numbersIn, numbersOf, checked, nowhere, placeOf, sectionAt, listOf}
+use Rattle.archive.specs.Replay.{listIn, entriesIn, freshFor, countOf, asAccepted, asRefused, replayed, figuresOf}
+use Rattle.archive.specs.WorkedCases.{closings, list, WorkedCases}
 use Rattle.ledger.specs.MarkedCases.{closeMonth}
 use Rattle.archive.proofs.worked_cases.Statement.{statement}
 use Rattle.archive.proofs.worked_cases.Tie as tie
@@ -56,33 +57,41 @@ unfolding sectionsOf closesMonth entryOf byteAt
 sections-closings zero = refl
 sections-closings (suc n) = ap (λ (ss : List (List ℕ)). closeMonth 0 0 0 0 ∷ ss) (sections-closings n)
 
-right-closings : (n i : ℕ) → firstRefusal i (map formNumber (replicate n (closeMonth 0 0 0 0))) ≡ finding 0 0
+right-closings : (n i : ℕ) → firstRefusal i (map (formNumber false) (replicate n (closeMonth 0 0 0 0))) ≡ finding 0 0
 unfolding divides leap lengths monthLength real pricesInRange verdict byteAt halfAt wordAt entryOf lookup kindOf pricesOf accountTooHigh unusedSet wordsInRange wrongTransfer fieldChecks entryChecks entryNumber formNumber finding firstRefusal
 right-closings zero i = refl
 right-closings (suc n) i = right-closings n (i + 1)
 
-too-many : (n room : ℕ) → 1200 < n → written (closings n) room ≡ unwritten 11 0
+too-many : (n room : ℕ) → 1200 < n → written false (closings n) room ≡ unwritten 11 0
 unfolding written listChecked tooLarge finding
 too-many n room h =
     let whole : length (closings n) % 32 ≡ 0 = omega (arith, length-closings n) in
     rw (whole, entries-closings n, right-closings n 0, sections-closings n, length-replicate n (closeMonth 0 0 0 0), lt-ltb 1200 n h)
 
 worked : WorkedCases
-unfolding within amountOf withinMills above percent sameMonth april divides leap lengths monthLength real sameDate isOn firstOfGasYear termsInRange mddqOf bcqOf capacityOf staysOnFbs openingTooHigh stepOf firstStep pricesInRange verdict byteAt halfAt wordAt entryOf lookup kindOf termsOf pricesOf processOnly wishes accountTooHigh unusedSet wordsInRange wrongTransfer fieldChecks entryChecks entryNumber formNumber noTotals noMonth noToday nobody fresh accountAt asOpen withBank withMeasure withCapacity withAccount totalsInRange stepInRange accountInRange everyAccount inRange quiet plain refused settle reworked termsNext termsChecks postTerms newAccount enrolled enrolChecks enrolment standingChecks wrongDay admission postSeveral changeOf stored postKind postEntry posted openBank openBanks panelOf bytesOf firstEntries entriesOf closesMonth finding firstRefusal joined sectionsOf concatenated header directory bodyAt packed archiveOf listChecked tooLarge unwritten written outputAfter sectionCount rightOpening wrongHeader pairAt pairsFrom pairsOf rightLength rightPairs rightDirectory partAt partsOf misplaced numberIn numbersIn numbersOf checked nowhere placeOf sectionAt listOf listIn entriesIn countOf asAccepted asRefused replayed figuresOf
+unfolding within amountOf withinMills above percent sameMonth april divides leap lengths monthLength real sameDate isOn firstOfGasYear termsInRange mddqOf bcqOf capacityOf staysOnFbs openingTooHigh stepOf firstStep pricesInRange verdict byteAt halfAt wordAt entryOf lookup kindOf termsOf pricesOf processOnly wishes accountTooHigh unusedSet wordsInRange wrongTransfer fieldChecks entryChecks entryNumber formNumber noTotals noMonth noToday nobody fresh accountAt asOpen withBank withMeasure withCapacity withAccount totalsInRange stepInRange accountInRange everyAccount inRange quiet plain refused settle reworked termsNext termsChecks postTerms newAccount enrolled enrolChecks enrolment standingChecks wrongDay admission postSeveral changeOf stored postKind postEntry posted openBank openBanks panelOf bytesOf firstEntries entriesOf closesMonth finding firstRefusal joined sectionsOf concatenated header directory bodyAt packed archiveOf listChecked tooLarge unwritten written outputAfter sectionCount opensAs rightOpening isNew wrongHeader pairAt pairsFrom pairsOf rightLength rightPairs rightDirectory partAt partsOf misplaced numberIn numbersIn numbersOf checked nowhere placeOf sectionAt listOf listIn entriesIn freshFor countOf asAccepted asRefused replayed figuresOf
 worked =
     record {
-      answer = refl;
+      answer = either-way;
       output = refl;
+      newOutput = refl;
       read = refl;
       section = refl;
+      newRead = (refl, refl, refl);
       figures = refl;
-      number8 = refl;
+      number8 = (refl, refl);
       number9 = refl;
       number10 = refl;
       number11 = too-many 1201 100000 (omega arith);
       number12 = (refl, refl);
       number13 = (refl, refl);
+      tenthKind = (refl, refl, refl, refl);
+      refusedNew = (refl, refl, refl);
     }
+  where
+    either-way : (new : Bool) → written new list 81 ≡ record { number = 0; index = 0; length = 80 }
+    either-way true = refl
+    either-way false = refl
 
 returns : tie.Need-returns
 returns c = worked

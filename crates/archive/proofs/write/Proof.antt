@@ -2,6 +2,7 @@
 use borrow.Author.Tests.{ne-eqb}
 use borrow.Author.Needs.{needs}
 use Prim.Native.Nat.{ℕ}
+use mathlib.Core.Bool.{Bool}
 use mathlib.Core.List.{List, _++_}
 use mathlib.Core.Path.{_≡_}
 use lib.ListN.{length, drop}
@@ -11,15 +12,15 @@ use Rattle.archive.specs.Writing.{written, outputAfter}
 use Rattle.archive.proofs.write.Statement.{statement}
 use Rattle.archive.proofs.write.Tie as tie
 
-module _ (list out : List ℕ) (w : Written) (p : w ≡ written list (length out)) where
-  accepted : w .number ≡ 0 → written list (length out) .number ≡ 0
+module _ (new : Bool) (list out : List ℕ) (w : Written) (p : w ≡ written new list (length out)) where
+  accepted : w .number ≡ 0 → written new list (length out) .number ≡ 0
   accepted z = cc
 
-  put : w .number ≡ 0 → (after : List ℕ) → after ≡ archiveOf list ++ drop (length (archiveOf list)) out → after ≡ outputAfter list out
+  put : w .number ≡ 0 → (after : List ℕ) → after ≡ archiveOf new list ++ drop (length (archiveOf new list)) out → after ≡ outputAfter new list out
   unfolding outputAfter
   put z after e = cc
 
-  untouched : (w .number ≡ 0 → ⊥) → out ≡ outputAfter list out
+  untouched : (w .number ≡ 0 → ⊥) → out ≡ outputAfter new list out
   unfolding outputAfter
   untouched d = cc (ne-eqb (w .number) 0 d)
 

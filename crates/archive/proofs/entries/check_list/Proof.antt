@@ -3,6 +3,7 @@ use borrow.Author.Tests.{ne-eqb}
 use borrow.Author.Needs.{needs}
 use native.Mathlib.Omega.{arith}
 use Prim.Native.Nat.{ℕ, _+_, _*_, _-_, _/_, _<_, _≤_}
+use mathlib.Core.Bool.{Bool}
 use mathlib.Core.List.{List, map}
 use mathlib.Core.Path.{_≡_, refl}
 use lib.ListN.{length, drop, take}
@@ -14,32 +15,32 @@ use Rattle.archive.proofs.entries.check_list.Statement.{statement}
 use Rattle.archive.proofs.entries.check_list.Tie as tie
 
 -- from entry k on, of n
-record Rest (s : List ℕ) (n k : ℕ) : Type 0 where
+record Rest (new : Bool) (s : List ℕ) (n k : ℕ) : Type 0 where
   within : k ≤ n
   all : n ≡ length s / 32
-  same : firstRefusal k (map formNumber (firstEntries (n - k) (drop (32 * k) s))) ≡ listChecked s
+  same : firstRefusal k (map (formNumber new) (firstEntries (n - k) (drop (32 * k) s))) ≡ listChecked new s
 
 abbrev Inv-loop : tie.InvT-loop
-Inv-loop list n k₀ k = Rest list n k
+Inv-loop new list n k₀ k = Rest new list n k
 
 abbrev μ-loop : tie.MeasureT-loop
-μ-loop list n k₀ k = n - k
+μ-loop new list n k₀ k = n - k
 
-at-first : (s : List ℕ) → Rest s (length s / 32) 0
+at-first : (new : Bool) (s : List ℕ) → Rest new s (length s / 32) 0
 unfolding entriesOf listChecked
-at-first s = let z : length s / 32 - 0 ≡ length s / 32 = omega arith in record { within = omega arith; all = refl; same = rw z }
+at-first new s = let z : length s / 32 - 0 ≡ length s / 32 = omega arith in record { within = omega arith; all = refl; same = rw z }
 
-module _ (s : List ℕ) (n k : ℕ) (r : Rest s n k) where
-  none-refused : n ≤ k → record { number = 0; index = 0 } ≡ listChecked s
+module _ (new : Bool) (s : List ℕ) (n k : ℕ) (r : Rest new s n k) where
+  none-refused : n ≤ k → record { number = 0; index = 0 } ≡ listChecked new s
   unfolding finding firstRefusal
   none-refused h = rw (entries-none n k (drop (32 * k) s) h) at (r .same)
 
-  module _ (more : k < n) (m : ℕ) (e : m ≡ formNumber (take (32 * k + 32 - 32 * k) (drop (32 * k) s))) where
-    refused : (m ≡ 0 → ⊥) → record { number = m; index = k } ≡ listChecked s
+  module _ (more : k < n) (m : ℕ) (e : m ≡ formNumber new (take (32 * k + 32 - 32 * k) (drop (32 * k) s))) where
+    refused : (m ≡ 0 → ⊥) → record { number = m; index = k } ≡ listChecked new s
     unfolding finding firstRefusal
     refused d = cc (rw (entries-next n k s more) at (r .same), ne-eqb m 0 d)
 
-    passed : m ≡ 0 → (j : ℕ) → j ≡ k + 1 → Rest s n j
+    passed : m ≡ 0 → (j : ℕ) → j ≡ k + 1 → Rest new s n j
     unfolding firstRefusal
     passed z j i = rw i (record { within = omega arith; all = r .all; same = cc (rw (entries-next n k s more) at (r .same)) })
 

@@ -16,39 +16,39 @@ use Rattle.archive.proofs.reading.check_section.Statement.{statement}
 use Rattle.archive.proofs.reading.check_section.Tie as tie
 
 -- from entry k on, of n
-record Rest (s : List ℕ) (first : ℕ) (last : Bool) (n k : ℕ) : Type 0 where
+record Rest (new : Bool) (s : List ℕ) (first : ℕ) (last : Bool) (n k : ℕ) : Type 0 where
   within : k ≤ n
   all : n ≡ length s / 32
-  same : firstRefusal (first + k) (numbersIn last (firstEntries (n - k) (drop (32 * k) s))) ≡ firstRefusal first (numbersIn last (entriesOf s))
+  same : firstRefusal (first + k) (numbersIn new last (firstEntries (n - k) (drop (32 * k) s))) ≡ firstRefusal first (numbersIn new last (entriesOf s))
 
 abbrev Inv-loop : tie.InvT-loop
-Inv-loop section first last n k₀ k = Rest section first last n k
+Inv-loop new section first last n k₀ k = Rest new section first last n k
 
 abbrev μ-loop : tie.MeasureT-loop
-μ-loop section first last n k₀ k = n - k
+μ-loop new section first last n k₀ k = n - k
 
-at-first : (s : List ℕ) (first : ℕ) (last : Bool) → Rest s first last (length s / 32) 0
+at-first : (new : Bool) (s : List ℕ) (first : ℕ) (last : Bool) → Rest new s first last (length s / 32) 0
 unfolding entriesOf
-at-first s first last =
+at-first new s first last =
     let z : length s / 32 - 0 ≡ length s / 32 = omega arith in
     let i : first + 0 ≡ first = omega arith in
     record { within = omega arith; all = refl; same = rw (z, i) }
 
-module _ (s : List ℕ) (first : ℕ) (last : Bool) (n k : ℕ) (r : Rest s first last n k) where
-  none-refused : n ≤ k → record { number = 0; index = 0 } ≡ firstRefusal first (numbersIn last (entriesOf s))
+module _ (new : Bool) (s : List ℕ) (first : ℕ) (last : Bool) (n k : ℕ) (r : Rest new s first last n k) where
+  none-refused : n ≤ k → record { number = 0; index = 0 } ≡ firstRefusal first (numbersIn new last (entriesOf s))
   unfolding finding firstRefusal numbersIn
   none-refused h = rw (entries-none n k (drop (32 * k) s) h) at (r .same)
 
-  module _ (more : k < n) (m : ℕ) (e : m ≡ numberIn (eqb (k + 1) n) last (take (32 * k + 32 - 32 * k) (drop (32 * k) s))) where
-    refused : (m ≡ 0 → ⊥) → record { number = m; index = first + k } ≡ firstRefusal first (numbersIn last (entriesOf s))
+  module _ (more : k < n) (m : ℕ) (e : m ≡ numberIn new (eqb (k + 1) n) last (take (32 * k + 32 - 32 * k) (drop (32 * k) s))) where
+    refused : (m ≡ 0 → ⊥) → record { number = m; index = first + k } ≡ firstRefusal first (numbersIn new last (entriesOf s))
     unfolding finding firstRefusal
-    refused d = cc (rw (numbers-next last n k s more) at (r .same), ne-eqb m 0 d)
+    refused d = cc (rw (numbers-next new last n k s more) at (r .same), ne-eqb m 0 d)
 
-    passed : m ≡ 0 → (j : ℕ) → j ≡ k + 1 → Rest s first last n j
+    passed : m ≡ 0 → (j : ℕ) → j ≡ k + 1 → Rest new s first last n j
     unfolding firstRefusal
     passed z j i =
         let l : first + (k + 1) ≡ first + k + 1 = omega arith in
-        rw i (record { within = omega arith; all = r .all; same = cc (rw (numbers-next last n k s more) at (r .same)) })
+        rw i (record { within = omega arith; all = r .all; same = cc (rw (numbers-next new last n k s more) at (r .same)) })
 
 pub check-section-spec : {M : Type 1} → statement M
 check-section-spec =

@@ -3,7 +3,7 @@ use borrow.Author.Needs.{needs}
 use native.Mathlib.Nat.{add-sub-cancel-left}
 use native.Mathlib.Omega.{arith}
 use Prim.Native.Nat.{ℕ, _+_, _*_, _-_, _/_, _%_, _<_, _≤_}
-use mathlib.Core.Bool.{true}
+use mathlib.Core.Bool.{Bool, true}
 use mathlib.Core.List.{List, map}
 use mathlib.Core.Path.{_≡_, _∙_}
 use lib.Dec.{eqb}
@@ -20,29 +20,29 @@ use Rattle.archive.proofs.reading.check_sections.Statement.{statement}
 use Rattle.archive.proofs.reading.check_sections.Tie as tie
 
 -- from section i on, of n, its first entry having the index `first`
-record Rest (a : List ℕ) (n first i : ℕ) : Type 0 where
+record Rest (new : Bool) (a : List ℕ) (n first i : ℕ) : Type 0 where
   within : i ≤ n
   all : n ≡ sectionCount a
   small : first ≤ 134217728 * i
-  same : firstRefusal first (numbersOf (map (partAt a) (pairsFrom a i (n - i)))) ≡ firstRefusal 0 (numbersOf (partsOf a))
+  same : firstRefusal first (numbersOf new (map (partAt a) (pairsFrom a i (n - i)))) ≡ firstRefusal 0 (numbersOf new (partsOf a))
 
 abbrev Inv-loop : tie.InvT-loop
-Inv-loop archive count first₀ i₀ first i = Rest archive count first i
+Inv-loop new archive count first₀ i₀ first i = Rest new archive count first i
 
 abbrev μ-loop : tie.MeasureT-loop
-μ-loop archive count first₀ i₀ first i = count - i
+μ-loop new archive count first₀ i₀ first i = count - i
 
 sizes : (s : tie.Start Inv-loop μ-loop) → Measured (s .args .archive .now)
 sizes s = measured (s .args .archive .now) (s .pre .0)
 
-at-first : (a : List ℕ) (n : ℕ) → n ≡ sectionCount a → Rest a n 0 0
+at-first : (new : Bool) (a : List ℕ) (n : ℕ) → n ≡ sectionCount a → Rest new a n 0 0
 unfolding partsOf pairsOf
-at-first a n e =
+at-first new a n e =
     let z : n - 0 ≡ n = omega arith in
     record { within = omega arith; all = e; small = omega arith; same = rw (z, e) }
 
-module _ (a : List ℕ) (n first i : ℕ) (r : Rest a n first i) where
-  all-passed : n ≤ i → record { number = 0; index = 0 } ≡ firstRefusal 0 (numbersOf (partsOf a))
+module _ (new : Bool) (a : List ℕ) (n first i : ℕ) (r : Rest new a n first i) where
+  all-passed : n ≤ i → record { number = 0; index = 0 } ≡ firstRefusal 0 (numbersOf new (partsOf a))
   unfolding finding firstRefusal numbersOf
   all-passed h = rw (pairs-none a n i h) at (r .same)
 
@@ -58,19 +58,19 @@ module _ (a : List ℕ) (n first i : ℕ) (r : Rest a n first i) where
     part-whole : length (take (o + l - o) (drop o a)) % 32 ≡ 0
     part-whole = rw (section-bytes a o l part-within) (held .multiple)
 
-    module _ (c : Checked) (e : c ≡ firstRefusal first (numbersIn (eqb (i + 1) n) (entriesOf (take (o + l - o) (drop o a))))) where
-      here : c ≡ firstRefusal first (numbersIn (eqb (i + 1) n) (entriesOf (partAt a (pairAt a i))))
+    module _ (c : Checked) (e : c ≡ firstRefusal first (numbersIn new (eqb (i + 1) n) (entriesOf (take (o + l - o) (drop o a))))) where
+      here : c ≡ firstRefusal first (numbersIn new (eqb (i + 1) n) (entriesOf (partAt a (pairAt a i))))
       unfolding partAt pairAt
       here = cc (add-sub-cancel-left o l)
 
-      part-refused : (c .number ≡ 0 → ⊥) → c ≡ firstRefusal 0 (numbersOf (partsOf a))
-      part-refused k = section-refuses a n i first more c here k ∙ r .same
+      part-refused : (c .number ≡ 0 → ⊥) → c ≡ firstRefusal 0 (numbersOf new (partsOf a))
+      part-refused k = section-refuses new a n i first more c here k ∙ r .same
 
-      part-passed : c .number ≡ 0 → l < 4294967296 → (next j : ℕ) → next ≡ first + l / 32 → j ≡ i + 1 → Rest a n next j
+      part-passed : c .number ≡ 0 → l < 4294967296 → (next j : ℕ) → next ≡ first + l / 32 → j ≡ i + 1 → Rest new a n next j
       unfolding partAt pairAt
       part-passed k b next j u v =
           let long : length (partAt a (pairAt a i)) ≡ l = cc (section-bytes a o l part-within, add-sub-cancel-left o l) in
-          rw (u, v) (record { within = omega arith; all = r .all; small = omega (arith, r); same = section-passes a n i first more c l long here k ∙ r .same })
+          rw (u, v) (record { within = omega arith; all = r .all; small = omega (arith, r); same = section-passes new a n i first more c l long here k ∙ r .same })
 
 pub check-sections-spec : {M : Type 1} → statement M
 check-sections-spec =

@@ -16,17 +16,17 @@ place-test true true last = refl
 place-test true false last = refl
 place-test false ends last = refl
 
-module _ (ends last : Bool) (e : List ℕ) (n : ℕ) (p : n ≡ formNumber e) where
-  form-wrong : (n ≡ 0 → ⊥) → n ≡ numberIn ends last e
+module _ (new ends last : Bool) (e : List ℕ) (n : ℕ) (p : n ≡ formNumber new e) where
+  form-wrong : (n ≡ 0 → ⊥) → n ≡ numberIn new ends last e
   unfolding numberIn
   form-wrong d = cc (ne-eqb n 0 d)
 
   module _ (z : n ≡ 0) (closes : Bool) (q : closes ≡ closesMonth e) where
-    out-of-place : (closes && not ends) || (not closes && ends && not last) ≡ true → 10 ≡ numberIn ends last e
+    out-of-place : (closes && not ends) || (not closes && ends && not last) ≡ true → 10 ≡ numberIn new ends last e
     unfolding numberIn misplaced
     out-of-place t = cc (place-test closes ends last)
 
-    in-place : (closes && not ends) || (not closes && ends && not last) ≡ false → 0 ≡ numberIn ends last e
+    in-place : (closes && not ends) || (not closes && ends && not last) ≡ false → 0 ≡ numberIn new ends last e
     unfolding numberIn misplaced
     in-place t = cc (place-test closes ends last)
 

@@ -2,6 +2,7 @@
 use borrow.Author.Needs.{needs}
 use native.Mathlib.Omega.{arith}
 use Prim.Native.Nat.{ℕ, _+_, _*_, _-_, _/_, _<_, _≤_}
+use mathlib.Core.Bool.{Bool}
 use mathlib.Core.List.{List}
 use mathlib.Core.Path.{_≡_, refl, sym, _∙_}
 use lib.ListN.{length, take, drop}
@@ -17,30 +18,30 @@ use Rattle.archive.proofs.replaying.post_all.Statement.{statement}
 use Rattle.archive.proofs.replaying.post_all.Tie as tie
 
 -- from entry k on, of n
-record Rest (s : List ℕ) (n : ℕ) (l : Ledger) (accepted refused k : ℕ) : Type 0 where
+record Rest (new : Bool) (s : List ℕ) (n : ℕ) (l : Ledger) (accepted refused k : ℕ) : Type 0 where
   within : k ≤ n
   all : n ≡ length s / 32
   some : accepted ≤ k
   others : refused ≤ k
-  accepts : accepted + countOf asAccepted (history l (left n k s l)) ≡ countOf asAccepted (history fresh (entriesOf s))
-  refuses : refused + countOf asRefused (history l (left n k s l)) ≡ countOf asRefused (history fresh (entriesOf s))
-  same : run l (left n k s l) ≡ run fresh (entriesOf s)
+  accepts : accepted + countOf asAccepted (history l (left n k s l)) ≡ countOf asAccepted (history (fresh new) (entriesOf s))
+  refuses : refused + countOf asRefused (history l (left n k s l)) ≡ countOf asRefused (history (fresh new) (entriesOf s))
+  same : run l (left n k s l) ≡ run (fresh new) (entriesOf s)
 
 abbrev Inv-loop : tie.InvT-loop
-Inv-loop list found n ledger₀ accepted₀ refused₀ k₀ ledger accepted refused k = Rest list n ledger accepted refused k
+Inv-loop new list found n ledger₀ accepted₀ refused₀ k₀ ledger accepted refused k = Rest new list n ledger accepted refused k
 
 abbrev μ-loop : tie.MeasureT-loop
-μ-loop list found n ledger₀ accepted₀ refused₀ k₀ ledger accepted refused k = n - k
+μ-loop new list found n ledger₀ accepted₀ refused₀ k₀ ledger accepted refused k = n - k
 
-at-first : (s : List ℕ) (l : Ledger) → l ≡ fresh → Rest s (length s / 32) l 0 0 0
+at-first : (new : Bool) (s : List ℕ) (l : Ledger) → l ≡ fresh new → Rest new s (length s / 32) l 0 0 0
 unfolding entriesOf
-at-first s l e =
+at-first new s l e =
     let z : length s / 32 - 0 ≡ length s / 32 = omega arith in
     record { within = omega arith; all = refl; some = omega arith; others = omega arith; accepts = rw (z, e) (omega arith); refuses = rw (z, e) (omega arith); same = rw (z, e) }
 
-module _ (s : List ℕ) (n : ℕ) (l : Ledger) (accepted refused k : ℕ) (r : Rest s n l accepted refused k) where
+module _ (new : Bool) (s : List ℕ) (n : ℕ) (l : Ledger) (accepted refused k : ℕ) (r : Rest new s n l accepted refused k) where
   one-posted : k < n → (p : Posted) → p ≡ posted l (take (32 * k + 32 - 32 * k) (drop (32 * k) s)) → (one : ℕ) → one ≡ accepting (p .answer .number)
-      → (taken passed j : ℕ) → taken ≡ accepted + one → passed ≡ refused + (1 - one) → j ≡ k + 1 → Rest s n (p .ledger) taken passed j
+      → (taken passed j : ℕ) → taken ≡ accepted + one → passed ≡ refused + (1 - one) → j ≡ k + 1 → Rest new s n (p .ledger) taken passed j
   one-posted more p e one u taken passed j v w z =
       let small = accepting-le (p .answer .number) in
       let counted = count-turn n k s l asAccepted (λ (q : Posted). accepting (q .answer .number)) (as-accepted (bytes n k s l)) more p e in
@@ -56,7 +57,7 @@ module _ (s : List ℕ) (n : ℕ) (l : Ledger) (accepted refused k : ℕ) (r : R
         same = run-turn n k s l more p e ∙ r .same;
       })
 
-  all-posted : n ≤ k → (accepted ≡ countOf asAccepted (history fresh (entriesOf s))) × (refused ≡ countOf asRefused (history fresh (entriesOf s))) × (l ≡ run fresh (entriesOf s))
+  all-posted : n ≤ k → (accepted ≡ countOf asAccepted (history (fresh new) (entriesOf s))) × (refused ≡ countOf asRefused (history (fresh new) (entriesOf s))) × (l ≡ run (fresh new) (entriesOf s))
   all-posted h =
       let none = count-over n k s l asAccepted h in
       let neither = count-over n k s l asRefused h in
@@ -83,4 +84,4 @@ post-all-spec =
     (λ c. search needs)
     (λ c. search needs)
     (λ c. search one-posted)
-    (λ c. let v : tie.At-loop Inv-loop μ-loop = search in let e = all-posted _ _ _ _ _ _ (v .loop .inv) (search) in ((refl, refl), (e .0, (e .1, e .2)))))
+    (λ c. let v : tie.At-loop Inv-loop μ-loop = search in let e = all-posted _ _ _ _ _ _ _ (v .loop .inv) (search) in ((refl, refl), (e .0, (e .1, e .2)))))

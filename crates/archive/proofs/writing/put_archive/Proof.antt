@@ -2,6 +2,7 @@
 use borrow.Author.Needs.{needs}
 use native.Mathlib.Omega.{arith}
 use Prim.Native.Nat.{ℕ, _+_, _*_, _%_, _≤_}
+use mathlib.Core.Bool.{Bool}
 use mathlib.Core.List.{List}
 use mathlib.Core.Path.{_≡_, ap, _∙_}
 use lib.Seq.{paste, length-paste}
@@ -25,14 +26,14 @@ planned : (s : tie.Start) → Planned (s .args .list .now) (length (s .args .out
 planned s =
     let list = s .args .list .now in
     let room = length (s .args .out .now) in
-    let w = written-tells list room (s .pre) in
-    let size = length-archive list (w .whole) in
-    record { whole = w .whole; few = w .few; short = omega (arith, w); fits = omega (arith, written-fits list room (s .pre)) }
+    let w = written-tells (s .args .«is_new») list room (s .pre) in
+    let size = length-archive (s .args .«is_new») list (w .whole) in
+    record { whole = w .whole; few = w .few; short = omega (arith, w); fits = omega (arith, written-fits (s .args .«is_new») list room (s .pre)) }
 
 -- what each finds
-module _ (list d x : List ℕ) (n : ℕ) (w : Planned list (length d)) (e : n ≡ length (sectionsOf (entriesOf list))) (hx : x ≡ paste d 0 (header n) 8) where
+module _ (new : Bool) (list d x : List ℕ) (n : ℕ) (w : Planned list (length d)) (e : n ≡ length (sectionsOf (entriesOf list))) (hx : x ≡ paste d 0 (header new n) 8) where
   headed : length x ≡ length d
-  headed = ap length hx ∙ length-paste d 0 (header n) 8 (omega (arith, w)) (omega (arith, length-header n))
+  headed = ap length hx ∙ length-paste d 0 (header new n) 8 (omega (arith, w)) (omega (arith, length-header new n))
 
   pairs-fit : 8 + 8 * n ≤ length x
   pairs-fit = omega (arith, w, headed)

@@ -15,7 +15,7 @@ unfolding header bytesOf
 returns c =
     let s : tie.Start = search in
     let n = s .args .count in
-    sets-eq (openingBytes ++ n % 256 ∷ n / 256 % 256 ∷ 0 ∷ 0 ∷ []) (s .args .out .now) 0 (omega arith)
+    sets-eq (openingBytes (s .args .«is_new») ++ n % 256 ∷ n / 256 % 256 ∷ 0 ∷ 0 ∷ []) (s .args .out .now) 0 (omega arith)
 
 pub put-header-spec : {M : Type 1} → statement M
 put-header-spec =
