@@ -70,10 +70,11 @@ fn put_header(is_new: bool, out: &mut [u8], count: usize)
     requires { ⌜ 8 ≤ length (now out) ⌝ }
     ensures { λ _. ⌜ now (out .exit) ≡ paste (now (out .entry)) 0 (header «is_new» count) 8 ⌝ }
 {
+    let fourth = fourth_byte(is_new);
     out[0] = 69;
     out[1] = 70;
     out[2] = 66;
-    out[3] = fourth_byte(is_new);
+    out[3] = fourth;
     out[4] = (count % 256) as u8;
     out[5] = (count / 256 % 256) as u8;
     out[6] = 0;

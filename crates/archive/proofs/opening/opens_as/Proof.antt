@@ -9,4 +9,6 @@ unfolding opensAs
 returns c = let at : tie.After-fourth-byte = search in rw (at .fourth-byte .ensures)
 
 pub opens-as-spec : {M : Type 1} → statement M
-opens-as-spec = tie.close (search (needs, tie.spec, returns))
+opens-as-spec =
+    tie.close
+    (tie.spec (λ c κs. search needs) (λ c. search needs) (λ c. search needs) (λ c. search needs) (λ c. search needs) returns)

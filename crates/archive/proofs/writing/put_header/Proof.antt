@@ -15,12 +15,15 @@ unfolding header bytesOf
 returns c =
     let s : tie.Start = search in
     let n = s .args .count in
-    sets-eq (openingBytes (s .args .«is_new») ++ n % 256 ∷ n / 256 % 256 ∷ 0 ∷ 0 ∷ []) (s .args .out .now) 0 (omega arith)
+    let fourth : tie.After-fourth-byte = search in
+    rw (fourth .fourth-byte .ensures)
+    (sets-eq (openingBytes (s .args .is-new) ++ n % 256 ∷ n / 256 % 256 ∷ 0 ∷ 0 ∷ []) (s .args .out .now) 0 (omega arith))
 
 pub put-header-spec : {M : Type 1} → statement M
 put-header-spec =
     tie.close
     (tie.spec
+    (λ c κs. search needs)
     (λ c. search needs)
     (λ c. simp length-set (omega arith))
     (λ c. simp length-set (omega arith))
