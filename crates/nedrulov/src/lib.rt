@@ -11,7 +11,7 @@ ghost use Rattle.ledger.specs.Forms.{formNumber};
 ghost use Rattle.ledger.specs.Posting.{posted};
 ghost use Rattle.ledger.specs.Panel.{panelOf};
 ghost use Rattle.archive.specs.Writing.{written, outputAfter};
-ghost use Rattle.archive.specs.Reading.{checked, placeOf};
+ghost use Rattle.archive.specs.Reading.{isNew, checked, placeOf};
 ghost use Rattle.archive.specs.Replay.{figuresOf};
 ghost use Rattle.archive.specs.YearSheet.{sheetOf};
 ghost use Rattle.nedrulov.specs.Cells.{cellsAfter};
@@ -42,17 +42,17 @@ pub struct Band {
 }
 
 #[no_mangle]
-pub extern "C" fn nedrulov_fresh() -> Ledger
-    ensures { λ r. ⌜ r ≡ fresh ⌝ }
+pub extern "C" fn nedrulov_fresh(is_new: bool) -> Ledger
+    ensures { λ r. ⌜ r ≡ fresh «is_new» ⌝ }
 {
-    ledger::fresh()
+    ledger::fresh(is_new)
 }
 
 #[no_mangle]
-pub extern "C" fn nedrulov_entry_number(entry: &[u8]) -> u64
-    ensures { λ r. ⌜ r ≡ formNumber (now (entry .entry)) ⌝ }
+pub extern "C" fn nedrulov_entry_number(is_new: bool, entry: &[u8]) -> u64
+    ensures { λ r. ⌜ r ≡ formNumber «is_new» (now (entry .entry)) ⌝ }
 {
-    ledger::entry_number(entry)
+    ledger::entry_number(is_new, entry)
 }
 
 #[no_mangle]
@@ -80,6 +80,13 @@ pub extern "C" fn nedrulov_panel(ledger: Ledger) -> Panel
 }
 
 #[no_mangle]
+pub extern "C" fn nedrulov_is_new(archive: &[u8]) -> bool
+    ensures { λ r. ⌜ r ≡ isNew (now (archive .entry)) ⌝ }
+{
+    archive::is_new(archive)
+}
+
+#[no_mangle]
 pub extern "C" fn nedrulov_check(archive: &[u8]) -> Checked
     ensures { λ r. ⌜ r ≡ checked (now (archive .entry)) ⌝ }
 {
@@ -94,11 +101,11 @@ pub extern "C" fn nedrulov_place(archive: &[u8], section: usize) -> Place
 }
 
 #[no_mangle]
-pub extern "C" fn nedrulov_write(list: &[u8], out: &mut [u8]) -> Written
-    ensures answer { λ r. ⌜ r ≡ written (now (list .entry)) (length (now (out .entry))) ⌝ }
-    ensures output { λ _. ⌜ now (out .exit) ≡ outputAfter (now (list .entry)) (now (out .entry)) ⌝ }
+pub extern "C" fn nedrulov_write(is_new: bool, list: &[u8], out: &mut [u8]) -> Written
+    ensures answer { λ r. ⌜ r ≡ written «is_new» (now (list .entry)) (length (now (out .entry))) ⌝ }
+    ensures output { λ _. ⌜ now (out .exit) ≡ outputAfter «is_new» (now (list .entry)) (now (out .entry)) ⌝ }
 {
-    archive::write(list, out)
+    archive::write(is_new, list, out)
 }
 
 #[no_mangle]
