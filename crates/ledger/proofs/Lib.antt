@@ -19,4 +19,5 @@ pub mod Figures
 pub mod Fields
 pub mod OldKinds
 pub mod OldLedgers
+pub mod AlikeLedgers
 pub mod LentPosting

@@ -24,3 +24,4 @@ pub mod Panel
 pub mod Running
 pub mod OldAndNew
 pub mod MarkedCases
+pub mod ConfiscatedCases

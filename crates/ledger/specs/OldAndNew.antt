@@ -1,9 +1,9 @@
 -- What sets old ledgers and new ones apart, and that an old one is answered as it was before there were new ones.
 use Rattle.tariff.specs.Vocabulary.{ℕ, min, Bool, false, true, cond, _&&_, leb, List, length, getD, _≡_}
 use Rattle.ledger.specs.Structs.{Account, Date, Ledger, Terms}
-use Rattle.ledger.specs.Kinds.{TERMS, CLOSE-MONTH}
+use Rattle.ledger.specs.Kinds.{TERMS, CLOSE-MONTH, CONFISCATED}
 use Rattle.ledger.specs.Entries.{entryOf}
-use Rattle.ledger.specs.State.{fresh, accountAt}
+use Rattle.ledger.specs.State.{fresh, accountAt, ledger}
 use Rattle.ledger.specs.Answers.{quiet, refused}
 use Rattle.ledger.specs.Closing.{afterDay, excessAt}
 use Rattle.ledger.specs.Posting.{posted}
@@ -31,6 +31,16 @@ pub record AsBefore (l : Ledger) : Type 0 where
 abbrev pub StaysAsBefore : Type 0
 StaysAsBefore =
     ((l : Ledger) (b : List ℕ) → AsBefore l → AsBefore (posted l b .ledger)) × ((bs : List (List ℕ)) → AsBefore (run (fresh false) bs))
+
+-- R84: the same ledger, told that it is old, or that it is new.
+unfoldable pub told : Bool → Ledger → Ledger
+told new l = ledger (l .begun) (l .touched) new (l .date) (l .terms) (l .accounts)
+
+-- R84: so told, it answers any bytes but a CLOSE MONTH and a CONFISCATED as before, and what it becomes is the same too.
+abbrev pub AlikeOtherwise : Type 0
+AlikeOtherwise =
+    (l : Ledger) (new : Bool) (b : List ℕ) → (entryOf b .kind ≡ CLOSE-MONTH → ⊥) → (entryOf b .kind ≡ CONFISCATED → ⊥)
+    → posted (told new l) b ≡ record { answer = posted l b .answer; ledger = told new (posted l b .ledger) }
 
 -- R57: what of account i lies above its percentage as a day closes, after the day's cash and with its next step.
 unfoldable pub excessIn : Ledger → Date → ℕ → ℕ

@@ -36,7 +36,8 @@ ghost use Rattle.ledger.specs.Forms.{formNumber};
 ghost use Rattle.ledger.specs.State.{fresh};
 ghost use Rattle.ledger.specs.Posting.{posted};
 ghost use Rattle.ledger.specs.Panel.{bankOf, panelOf};
-ghost use Rattle.ledger.specs.OldAndNew.{KeepsWhich, NineKinds, StaysAsBefore, ForfeitsByRule};
+ghost use Rattle.ledger.specs.OldAndNew.{KeepsWhich, NineKinds, StaysAsBefore, ForfeitsByRule, AlikeOtherwise};
+ghost use Rattle.ledger.specs.ConfiscatedCases.{ConfiscatedCases};
 ghost use Rattle.ledger.specs.MarkedCases.{MarkedCases};
 use crate::answers::answered;
 use crate::entries::decode;
@@ -176,6 +177,12 @@ pub fn old_stays_old()
     ensures nine_kinds { λ r. ⌜ NineKinds ⌝ }
     ensures as_before { λ r. ⌜ StaysAsBefore ⌝ }
     ensures forfeits { λ r. ⌜ ForfeitsByRule ⌝ }
+    ensures alike { λ r. ⌜ AlikeOtherwise ⌝ }
+{}
+
+// R85 and R86: cases of confiscated gas hold of ledgers as January and March end, as one group.
+pub fn confiscated_cases()
+    ensures { λ r. ⌜ ConfiscatedCases ⌝ }
 {}
 
 // R67: cases worked out in advance hold of postings to a fresh ledger, old or new, as one group.

@@ -304,7 +304,7 @@ fn posting(input: &[u8], at: usize, l: Ledger) -> Place
 }
 
 fn run(input: &[u8]) -> Ledger {
-    let mut l = ledger::fresh();
+    let mut l = ledger::fresh(false);
     let mut at = 0;
     while at < input.len() {
         let next = record(input, at, l);
