@@ -9,6 +9,11 @@
  * (a C program that only assigns to them, or copies whole ledgers, never makes another value). What each answer is
  * is proved for every input; see docs/ARCHITECTURE.md.
  *
+ * Old and new. A ledger or an archive is old or new, and stays so. In a new one a supplier forfeits no more than the
+ * storage provider confiscated, as entries of kind 10, CONFISCATED, tell; in an old one it forfeits all excess, and there
+ * are kinds 1 to 9 only. nedrulov_fresh, nedrulov_entry_number and nedrulov_write must be told which is meant, by is_new;
+ * every other call sees it in what it is given: in the ledger's is_new, or in the archive's fourth byte, '1' or '2'.
+ *
  * Measures. Gas that moves is in units, of which a Dth has a hundred; capacities (MDQ, MDDQ, BCQ) are in Dth, consumption
  * is in Mcf, and money in mills, of which a dollar has a thousand.
  */
@@ -33,7 +38,7 @@ enum {
     NEDRULOV_ACCEPTED = 0,
     /* of an entry or a list by itself */
     NEDRULOV_WRONG_LENGTH = 1,      /* an entry has 32 bytes, a list a multiple of 32 */
-    NEDRULOV_NO_KIND = 2,           /* kinds are 1 to 9 */
+    NEDRULOV_NO_KIND = 2,           /* kinds are 1 to 9, in a new ledger or archive 1 to 10 */
     NEDRULOV_NO_DATE = 3,           /* the calendar of 2000 to 2099 has no such day */
     NEDRULOV_NO_ACCOUNT = 4,        /* a used account is above 15 */
     NEDRULOV_UNUSED_SET = 5,        /* something is set that the kind does not use */
@@ -53,7 +58,7 @@ enum {
     NEDRULOV_WRONG_DAY = 23,        /* this kind is not for this day */
     NEDRULOV_WRONG_ACCOUNT = 24,    /* already open for ENROL, or not open for another kind */
     NEDRULOV_STAYS_ON_FBS = 25,     /* the supplier is not served under EFBS */
-    NEDRULOV_SECOND_TIME = 26,      /* DELIVER was posted today, or MEASURE or USAGE this month */
+    NEDRULOV_SECOND_TIME = 26,      /* DELIVER or CONFISCATED was posted today, or MEASURE or USAGE this month */
     NEDRULOV_INCOMPLETE = 27,       /* closing: DELIVER, MEASURE or USAGE is missing somewhere */
     NEDRULOV_PAST_LIMIT = 28,       /* too large an opening, or a bank moved past the month's band */
     NEDRULOV_WOULD_OVERFLOW = 29    /* a number of the ledger would go out of range */
@@ -109,6 +114,8 @@ typedef struct {
     bool delivered;                 /* DELIVER accepted */
     bool v1;                        /* what that delivery broke */
     bool v2;
+    bool confiscated;               /* CONFISCATED accepted, be it of 0 */
+    uint64_t confiscation;          /* units that it told of */
 } nedrulov_today;
 
 /* the month so far: CLOSE MONTH clears it */
@@ -135,6 +142,7 @@ typedef struct {
 typedef struct {
     bool begun;
     bool touched;                   /* something was accepted today */
+    bool is_new;                    /* a forfeit is at most what was confiscated */
     nedrulov_date date;
     nedrulov_terms terms;
     nedrulov_account accounts[NEDRULOV_ACCOUNTS];
@@ -144,7 +152,7 @@ typedef struct {
 typedef struct {
     uint64_t mask;                  /* NEDRULOV_V1 to NEDRULOV_V8 */
     int64_t cash;                   /* units, in positive, out negative */
-    uint64_t forfeit;               /* units */
+    uint64_t forfeit;               /* units; in a new ledger the smaller of the excess and what was confiscated */
     int64_t bill;                   /* mills */
 } nedrulov_report;
 
@@ -163,11 +171,11 @@ typedef struct {
     int64_t figure;                 /* total gas in bank, units */
 } nedrulov_panel_answer;
 
-/* A ledger with no terms, no date and no open account. */
-nedrulov_ledger nedrulov_fresh(void);
+/* A ledger with no terms, no date and no open account, old or new. */
+nedrulov_ledger nedrulov_fresh(bool is_new);
 
-/* What is wrong with an entry by itself: 0, or 1 to 7. */
-uint64_t nedrulov_entry_number(const uint8_t *entry, size_t length);
+/* What is wrong with an entry by itself, for old or new ledgers: 0, or 1 to 7. */
+uint64_t nedrulov_entry_number(bool is_new, const uint8_t *entry, size_t length);
 
 /* Posts an entry to the ledger in the caller's storage. Refused: the number, zeros, and the ledger as it was. */
 nedrulov_answer nedrulov_post(nedrulov_ledger *ledger, const uint8_t *entry, size_t length);
@@ -206,16 +214,19 @@ typedef struct {
     int64_t figure;                 /* total gas in bank after the last, units */
 } nedrulov_replay_figures;
 
+/* Whether the first four bytes are those of a new archive, whatever follows them. */
+bool nedrulov_is_new(const uint8_t *archive, size_t length);
+
 /* What is wrong with an archive: 0, or 8, 9, or 2 to 7 and 10 with an entry's index. */
 nedrulov_checked nedrulov_check(const uint8_t *archive, size_t length);
 
 /* Where a section lies, counted from 0; 13 if there is no such section, after the archive's own refusals. */
 nedrulov_section_place nedrulov_place(const uint8_t *archive, size_t length, size_t section);
 
-/* Writes the archive of a list of entries to the start of the output. Refused: the output stays; bytes past the archive stay. */
-nedrulov_written nedrulov_write(const uint8_t *list, size_t list_length, uint8_t *out, size_t out_length);
+/* Writes the old or new archive of a list to the start of the output. Refused: the output stays; bytes past the archive stay. */
+nedrulov_written nedrulov_write(bool is_new, const uint8_t *list, size_t list_length, uint8_t *out, size_t out_length);
 
-/* Posts an archive's entries in order to a fresh ledger. */
+/* Posts an archive's entries in order to a fresh ledger, new if the archive is. */
 nedrulov_replay_figures nedrulov_figures(const uint8_t *archive, size_t length);
 
 /*
@@ -250,26 +261,29 @@ nedrulov_band_limits nedrulov_band(uint64_t month, uint64_t bcq);
 
 NEDRULOV_ASSERT(size_of_size, sizeof(size_t) == 8);
 NEDRULOV_ASSERT(size_of_bool, sizeof(bool) == 1);
-NEDRULOV_ASSERT(size_of_today, sizeof(nedrulov_today) == 3);
+NEDRULOV_ASSERT(size_of_today, sizeof(nedrulov_today) == 16);
+NEDRULOV_ASSERT(confiscated_offset, offsetof(nedrulov_today, confiscated) == 3);
+NEDRULOV_ASSERT(confiscation_offset, offsetof(nedrulov_today, confiscation) == 8);
 NEDRULOV_ASSERT(size_of_this_month, sizeof(nedrulov_this_month) == 56);
 NEDRULOV_ASSERT(measured_offset, offsetof(nedrulov_this_month, measured) == 48);
-NEDRULOV_ASSERT(size_of_account, sizeof(nedrulov_account) == 152);
+NEDRULOV_ASSERT(size_of_account, sizeof(nedrulov_account) == 168);
 NEDRULOV_ASSERT(excused_offset, offsetof(nedrulov_account, excused) == 1);
-NEDRULOV_ASSERT(today_offset, offsetof(nedrulov_account, today) == 2);
-NEDRULOV_ASSERT(bank_offset, offsetof(nedrulov_account, bank) == 8);
-NEDRULOV_ASSERT(mdq_offset, offsetof(nedrulov_account, mdq) == 16);
-NEDRULOV_ASSERT(step_offset, offsetof(nedrulov_account, step) == 24);
-NEDRULOV_ASSERT(capacity_offset, offsetof(nedrulov_account, capacity) == 56);
-NEDRULOV_ASSERT(month_offset, offsetof(nedrulov_account, month) == 72);
-NEDRULOV_ASSERT(carry_offset, offsetof(nedrulov_account, carry) == 128);
-NEDRULOV_ASSERT(owed_offset, offsetof(nedrulov_account, owed) == 136);
-NEDRULOV_ASSERT(violation_days_offset, offsetof(nedrulov_account, violation_days) == 144);
-NEDRULOV_ASSERT(size_of_ledger, sizeof(nedrulov_ledger) == 2512);
+NEDRULOV_ASSERT(today_offset, offsetof(nedrulov_account, today) == 8);
+NEDRULOV_ASSERT(bank_offset, offsetof(nedrulov_account, bank) == 24);
+NEDRULOV_ASSERT(mdq_offset, offsetof(nedrulov_account, mdq) == 32);
+NEDRULOV_ASSERT(step_offset, offsetof(nedrulov_account, step) == 40);
+NEDRULOV_ASSERT(capacity_offset, offsetof(nedrulov_account, capacity) == 72);
+NEDRULOV_ASSERT(month_offset, offsetof(nedrulov_account, month) == 88);
+NEDRULOV_ASSERT(carry_offset, offsetof(nedrulov_account, carry) == 144);
+NEDRULOV_ASSERT(owed_offset, offsetof(nedrulov_account, owed) == 152);
+NEDRULOV_ASSERT(violation_days_offset, offsetof(nedrulov_account, violation_days) == 160);
+NEDRULOV_ASSERT(size_of_ledger, sizeof(nedrulov_ledger) == 2768);
+NEDRULOV_ASSERT(is_new_offset, offsetof(nedrulov_ledger, is_new) == 2);
 NEDRULOV_ASSERT(date_offset, offsetof(nedrulov_ledger, date) == 8);
 NEDRULOV_ASSERT(terms_offset, offsetof(nedrulov_ledger, terms) == 32);
 NEDRULOV_ASSERT(accounts_offset, offsetof(nedrulov_ledger, accounts) == 80);
 NEDRULOV_ASSERT(size_of_answer, sizeof(nedrulov_answer) == 520);
-NEDRULOV_ASSERT(size_of_posted, sizeof(nedrulov_posted) == 3032);
+NEDRULOV_ASSERT(size_of_posted, sizeof(nedrulov_posted) == 3288);
 
 #ifdef __cplusplus
 }

@@ -88,7 +88,7 @@ pub fn of_list(list: &[u8]) -> Result<Vec<u8>, Refusal> {
     if archive.try_reserve_exact(length).is_ok() {
         archive.resize(length, 0);
     }
-    let written = nedrulov::write(list, &mut archive);
+    let written = nedrulov::write(false, list, &mut archive);
     archive.truncate(written.length);
     match written.number {
         0 => Ok(archive),

@@ -99,7 +99,8 @@ impl Entry {
 impl Day {
     /// Whether the library knows such a date.
     pub fn exists(self) -> bool {
-        nedrulov::entry_number(&Entry::blank(Kind::CloseDay, self).to_bytes()) == 0
+        // Closings are the same, old or new.
+        nedrulov::entry_number(false, &Entry::blank(Kind::CloseDay, self).to_bytes()) == 0
     }
 }
 

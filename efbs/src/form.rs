@@ -311,7 +311,7 @@ mod tests {
             for place in (1..3).chain(8..32) {
                 let mut bytes = blank;
                 bytes[place] = 255;
-                let unused = nedrulov::entry_number(&bytes) == 5;
+                let unused = nedrulov::entry_number(false, &bytes) == 5;
                 assert_eq!(
                     unused,
                     !named[place],
@@ -328,7 +328,7 @@ mod tests {
             for flags in 0..=255 {
                 let mut entry = Entry::blank(kind, DATE);
                 entry.flags = flags;
-                let unused = nedrulov::entry_number(&entry.to_bytes()) == 5;
+                let unused = nedrulov::entry_number(false, &entry.to_bytes()) == 5;
                 let told: u8 = kind.form().flags.list().iter().map(|flag| flag.bits).sum();
                 assert_eq!(
                     unused,

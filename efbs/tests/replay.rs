@@ -9,7 +9,7 @@ use std::ops::ControlFlow;
 
 #[test]
 fn steps_join() {
-    let mut last = nedrulov::fresh();
+    let mut last = nedrulov::fresh(false);
     let mut count = 0;
     let ended = replay(&sample(), |step| {
         assert_eq!(step.index, count);

@@ -15,11 +15,17 @@ static void expect(bool right, const char *what, size_t at)
     }
 }
 
+static bool same_today(const nedrulov_today *a, const nedrulov_today *b)
+{
+    return a->delivered == b->delivered && a->v1 == b->v1 && a->v2 == b->v2 && a->confiscated == b->confiscated
+        && a->confiscation == b->confiscation;
+}
+
 static bool same_account(const nedrulov_account *a, const nedrulov_account *b)
 {
-    /* today, step, capacity and the month's totals have no padding */
+    /* step, capacity and the month's totals have no padding */
     return a->opened == b->opened && a->excused == b->excused && a->bank == b->bank && a->mdq == b->mdq
-        && memcmp(&a->today, &b->today, sizeof a->today) == 0
+        && same_today(&a->today, &b->today)
         && memcmp(&a->step, &b->step, sizeof a->step) == 0
         && memcmp(&a->capacity, &b->capacity, sizeof a->capacity) == 0
         && memcmp(&a->month.totals, &b->month.totals, sizeof a->month.totals) == 0
@@ -29,8 +35,8 @@ static bool same_account(const nedrulov_account *a, const nedrulov_account *b)
 
 static bool same_ledger(const nedrulov_ledger *a, const nedrulov_ledger *b)
 {
-    if (a->begun != b->begun || a->touched != b->touched || memcmp(&a->date, &b->date, sizeof a->date) != 0
-        || memcmp(&a->terms, &b->terms, sizeof a->terms) != 0)
+    if (a->begun != b->begun || a->touched != b->touched || a->is_new != b->is_new
+        || memcmp(&a->date, &b->date, sizeof a->date) != 0 || memcmp(&a->terms, &b->terms, sizeof a->terms) != 0)
         return false;
     for (int i = 0; i < NEDRULOV_ACCOUNTS; i++)
         if (!same_account(&a->accounts[i], &b->accounts[i]))
@@ -65,7 +71,7 @@ static void post_both(guarded *lent, const uint8_t *entry, size_t length, size_t
 }
 
 /* Each member has the name that the library gives it: a first day whose numbers are all told by hand. */
-static void first_day(void)
+static nedrulov_ledger first_day(bool is_new)
 {
     static const uint8_t terms[32] = {1, 0, 0, 0, 0xEA, 0x07, 4, 1, 0xC0, 0xD4, 1, 0, 0x00, 0x53, 7, 0, 0xD0, 0x4C, 0x4C, 0,
                                       150, 0, 0, 0, 0x06, 0x31, 0, 0, 32, 0, 0, 0};
@@ -75,7 +81,7 @@ static void first_day(void)
     static const uint8_t usage[32] = {7, 3, 0, 0, 0xEA, 0x07, 4, 1, 11, 0, 0, 0};
     static const uint8_t deliver[32] = {3, 3, 0, 0, 0xEA, 0x07, 4, 1, 0xE8, 3, 0, 0, 0xB8, 11, 0, 0};
     static const uint8_t close_day[32] = {8, 0, 0, 0, 0xEA, 0x07, 4, 1};
-    nedrulov_ledger l = nedrulov_fresh();
+    nedrulov_ledger l = nedrulov_fresh(is_new);
     const nedrulov_account *a = &l.accounts[3];
     expect(nedrulov_post(&l, terms, 32).number == 0, "TERMS", 0);
     expect(l.begun && l.touched && l.date.year == 2026 && l.date.month == 4 && l.date.day == 1, "date", 0);
@@ -93,7 +99,66 @@ static void first_day(void)
     nedrulov_answer closed = nedrulov_post(&l, close_day, 32);
     expect(closed.number == 0 && closed.reports[3].mask == NEDRULOV_V7 && closed.reports[3].cash == 920, "CLOSE DAY", 0);
     expect(a->bank == 0 && a->month.totals.cash_ins == 920 && a->violation_days == 1 && l.date.day == 2 && !l.touched, "closed", 0);
-    expect(!a->today.delivered && a->month.metered, "marks after", 0);
+    expect(!a->today.delivered && a->month.metered && l.is_new == is_new, "marks after", 0);
+    return l;
+}
+
+/* What closing January forfeits of 937,175 units of excess, after CONFISCATED was posted, or not if it is negative. */
+static uint64_t forfeit_of_january(bool is_new, int64_t confiscated)
+{
+    static const uint8_t deliver[32] = {3, 3, 0, 0, 0xEB, 0x07, 1, 31};
+    static const uint8_t close_month[32] = {9, 0, 0, 0, 0xEB, 0x07, 1, 31};
+    uint8_t entry[32] = {10, 3, 0, 0, 0xEB, 0x07, 1, 31};
+    nedrulov_ledger l = first_day(is_new);
+    nedrulov_account *a = &l.accounts[3];
+    l.date = (nedrulov_date){2027, 1, 30};
+    a->bank = 5000000;
+    for (int i = 0; i < 4; i++)
+        entry[8 + i] = (uint8_t)((uint64_t)confiscated >> 8 * i);
+    entry[7] = 30;
+    expect(nedrulov_post(&l, entry, 32).number == (is_new ? NEDRULOV_WRONG_DAY : NEDRULOV_NO_KIND), "the day before", 0);
+    entry[7] = 31;
+    l.date.day = 31;
+    expect(nedrulov_entry_number(is_new, entry, 32) == (is_new ? NEDRULOV_ACCEPTED : NEDRULOV_NO_KIND), "entry", 0);
+    if (confiscated >= 0) {
+        expect(nedrulov_post(&l, entry, 32).number == (is_new ? NEDRULOV_ACCEPTED : NEDRULOV_NO_KIND), "CONFISCATED", 0);
+        expect(a->today.confiscated == is_new && a->today.confiscation == (is_new ? (uint64_t)confiscated : 0), "told", 0);
+        expect(nedrulov_post(&l, entry, 32).number == (is_new ? NEDRULOV_SECOND_TIME : NEDRULOV_NO_KIND), "twice", 0);
+        expect(a->bank == 5000000, "CONFISCATED moved gas", 0);
+    }
+    expect(nedrulov_post(&l, deliver, 32).number == 0, "DELIVER in January", 0);
+    nedrulov_answer closed = nedrulov_post(&l, close_month, 32);
+    uint64_t forfeit = closed.reports[3].forfeit;
+    expect(closed.number == 0 && a->bank == 5000000 - (int64_t)forfeit, "CLOSE MONTH", 0);
+    expect(!a->today.confiscated && a->today.confiscation == 0 && l.is_new == is_new, "cleared", 0);
+    return forfeit;
+}
+
+/* 65 percent of 62,505 Dth is 4,062,825 units. */
+static void forfeits(void)
+{
+    expect(forfeit_of_january(true, 1000000) == 937175, "more confiscated than the excess", 0);
+    expect(forfeit_of_january(true, 937175) == 937175, "as much confiscated", 0);
+    expect(forfeit_of_january(true, 937174) == 937174, "less confiscated", 0);
+    expect(forfeit_of_january(true, 0) == 0, "nothing confiscated", 0);
+    expect(forfeit_of_january(true, -1) == 0, "nothing told", 0);
+    expect(forfeit_of_january(false, -1) == 937175, "an old ledger", 0);
+    expect(forfeit_of_january(false, 1) == 937175, "an old ledger that was told", 0);
+}
+
+/* A new archive differs from the old one of the same list in its fourth byte. */
+static void new_archive(uint8_t *archive, size_t length, const uint8_t *list, size_t list_length)
+{
+    uint8_t *out = malloc(length);
+    nedrulov_written w = nedrulov_write(true, list, list_length, out, length);
+    expect(w.number == 0 && w.length == length && out[3] == '2' && archive[3] == '1', "write of a new one", 0);
+    expect(memcmp(out, archive, 3) == 0 && memcmp(out + 4, archive + 4, length - 4) == 0, "bytes of a new one", 0);
+    expect(nedrulov_is_new(out, length) && !nedrulov_is_new(archive, length), "old and new", 0);
+    expect(nedrulov_is_new(out, 4) && !nedrulov_is_new(out, 3) && !nedrulov_is_new(NULL, 0), "old and new of short ones", 0);
+    expect(nedrulov_check(out, length).number == 0, "check of a new one", 0);
+    out[3] = '3';
+    expect(nedrulov_check(out, length).number == NEDRULOV_WRONG_HEADER && !nedrulov_is_new(out, length), "a third sort", 0);
+    free(out);
 }
 
 static void archive_calls(const uint8_t *archive, size_t length, const uint8_t *list, size_t list_length)
@@ -108,9 +173,9 @@ static void archive_calls(const uint8_t *archive, size_t length, const uint8_t *
     expect(p.number == NEDRULOV_NO_SECTION && p.start == 0 && p.length == 0, "place of no section", 0);
     uint8_t *out = malloc(length + 1);
     memset(out, 0xA5, length + 1);
-    nedrulov_written w = nedrulov_write(list, list_length, out, length - 1);
+    nedrulov_written w = nedrulov_write(false, list, list_length, out, length - 1);
     expect(w.number == NEDRULOV_TOO_SHORT && w.length == 0 && out[0] == 0xA5, "write to a short output", 0);
-    w = nedrulov_write(list, list_length, out, length + 1);
+    w = nedrulov_write(false, list, list_length, out, length + 1);
     expect(w.number == 0 && w.length == length && memcmp(out, archive, length) == 0 && out[length] == 0xA5, "write", 0);
     free(out);
     nedrulov_replay_figures f = nedrulov_figures(archive, length);
@@ -155,11 +220,13 @@ int main(int argc, char **argv)
     size_t body = 8 + 8 * (size_t)(archive[4] + 256 * archive[5]);
 
     limits();
-    first_day();
+    first_day(false);
+    forfeits();
     archive_calls(archive, length, archive + body, length - body);
+    new_archive(archive, length, archive + body, length - body);
     guarded lent;
     memset(&lent, 0xA5, sizeof lent);
-    lent.ledger = nedrulov_fresh();
+    lent.ledger = nedrulov_fresh(false);
     size_t posted = 0;
     for (size_t at = body; at + 32 <= length; at += 32) {
         post_both(&lent, archive + at, 31, at);

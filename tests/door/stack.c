@@ -20,7 +20,7 @@ static volatile uint64_t seen;
 static const uint8_t *entry(void) { return archive + 8 + 8 * archive[4]; }
 
 static void *nothing(void *unused) { return unused; }
-static void *fresh(void *unused) { ledger = nedrulov_fresh(); return unused; }
+static void *fresh(void *unused) { ledger = nedrulov_fresh(true); return unused; }
 static void *post(void *unused) { seen = nedrulov_post(&ledger, entry(), 32).number; return unused; }
 static void *by_value(void *unused) { posted = nedrulov_post_by_value(ledger, entry(), 32); return unused; }
 static void *closing(void *unused)
@@ -34,7 +34,7 @@ static void *check(void *unused) { seen = nedrulov_check(archive, length).number
 static void *place(void *unused) { seen = nedrulov_place(archive, length, 3).start; return unused; }
 static void *write(void *unused)
 {
-    seen = nedrulov_write(entry(), length - 8 - 8 * archive[4], out, sizeof out).number;
+    seen = nedrulov_write(true, entry(), length - 8 - 8 * archive[4], out, sizeof out).number;
     return unused;
 }
 static void *figures(void *unused) { seen = nedrulov_figures(archive, length).number; return unused; }

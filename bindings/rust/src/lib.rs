@@ -2,6 +2,11 @@
 //! the contracts of `crates/nedrulov`; names and units are those of `include/nedrulov.h`.
 //!
 //! The library allocates nothing and keeps no state. A refusal changes nothing.
+//!
+//! A ledger or an archive is old or new, and stays so. In a new one a supplier forfeits no more than the storage
+//! provider confiscated, as entries of kind 10, CONFISCATED, tell; in an old one it forfeits all excess, and there are
+//! kinds 1 to 9 only. [`fresh`], [`entry_number`] and [`write`] must be told which is meant; every other function sees it
+//! in what it is given.
 
 mod ffi;
 
@@ -70,6 +75,10 @@ pub struct Today {
     pub delivered: bool,
     pub v1: bool,
     pub v2: bool,
+    /// CONFISCATED was accepted, be it of 0.
+    pub confiscated: bool,
+    /// The hundredths of a Dth that it told of.
+    pub confiscation: u64,
 }
 
 /// The month so far: CLOSE MONTH clears it.
@@ -103,6 +112,8 @@ pub struct Account {
 pub struct Ledger {
     pub begun: bool,
     pub touched: bool,
+    /// A forfeit is at most what was confiscated.
+    pub is_new: bool,
     pub date: Date,
     pub terms: Terms,
     pub accounts: [Account; ACCOUNTS],
@@ -183,14 +194,14 @@ pub struct Band {
     pub maximum: u64,
 }
 
-/// A ledger with no terms, no date and no open account.
-pub fn fresh() -> Ledger {
-    unsafe { ffi::nedrulov_fresh() }
+/// A ledger with no terms, no date and no open account, old or new.
+pub fn fresh(is_new: bool) -> Ledger {
+    unsafe { ffi::nedrulov_fresh(is_new) }
 }
 
-/// What is wrong with an entry by itself: 0, or 1 to 7.
-pub fn entry_number(entry: &[u8]) -> u64 {
-    unsafe { ffi::nedrulov_entry_number(entry.as_ptr(), entry.len()) }
+/// What is wrong with an entry by itself, for old or new ledgers: 0, or 1 to 7.
+pub fn entry_number(is_new: bool, entry: &[u8]) -> u64 {
+    unsafe { ffi::nedrulov_entry_number(is_new, entry.as_ptr(), entry.len()) }
 }
 
 /// Posts an entry to the ledger in its storage.
@@ -206,6 +217,11 @@ pub fn post_by_value(ledger: Ledger, entry: &[u8]) -> Posted {
 /// Total gas in bank, or 20 on a ledger out of range.
 pub fn panel(ledger: Ledger) -> Panel {
     unsafe { ffi::nedrulov_panel(ledger) }
+}
+
+/// Whether the first four bytes are those of a new archive, whatever follows them.
+pub fn is_new(archive: &[u8]) -> bool {
+    unsafe { ffi::nedrulov_is_new(archive.as_ptr(), archive.len()) }
 }
 
 /// What is wrong with an archive, and at which entry; 0 and 0 where nothing is.
@@ -227,12 +243,12 @@ pub fn section(archive: &[u8], section: usize) -> Result<&[u8], Checked> {
     }
 }
 
-/// Writes the archive of a list of entries to the start of the output.
-pub fn write(list: &[u8], out: &mut [u8]) -> Written {
-    unsafe { ffi::nedrulov_write(list.as_ptr(), list.len(), out.as_mut_ptr(), out.len()) }
+/// Writes the archive of a list of entries, an old or a new one, to the start of the output.
+pub fn write(is_new: bool, list: &[u8], out: &mut [u8]) -> Written {
+    unsafe { ffi::nedrulov_write(is_new, list.as_ptr(), list.len(), out.as_mut_ptr(), out.len()) }
 }
 
-/// Posts an archive's entries in order to a fresh ledger.
+/// Posts an archive's entries in order to a fresh ledger, new if the archive is.
 pub fn figures(archive: &[u8]) -> Figures {
     unsafe { ffi::nedrulov_figures(archive.as_ptr(), archive.len()) }
 }

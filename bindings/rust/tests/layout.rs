@@ -10,13 +10,13 @@ fn sizes() {
     assert_eq!(size_of::<Step>(), 32);
     assert_eq!(size_of::<Capacity>(), 16);
     assert_eq!(size_of::<Totals>(), 48);
-    assert_eq!(size_of::<Today>(), 3);
+    assert_eq!(size_of::<Today>(), 16);
     assert_eq!(size_of::<ThisMonth>(), 56);
-    assert_eq!(size_of::<Account>(), 152);
-    assert_eq!(size_of::<Ledger>(), 2512);
+    assert_eq!(size_of::<Account>(), 168);
+    assert_eq!(size_of::<Ledger>(), 2768);
     assert_eq!(size_of::<Report>(), 32);
     assert_eq!(size_of::<Answer>(), 520);
-    assert_eq!(size_of::<Posted>(), 3032);
+    assert_eq!(size_of::<Posted>(), 3288);
     assert_eq!(size_of::<Panel>(), 16);
     assert_eq!(size_of::<Checked>(), 16);
     assert_eq!(size_of::<Place>(), 32);
@@ -27,18 +27,21 @@ fn sizes() {
 
 #[test]
 fn offsets() {
+    assert_eq!(offset_of!(Today, confiscated), 3);
+    assert_eq!(offset_of!(Today, confiscation), 8);
     assert_eq!(offset_of!(ThisMonth, measured), 48);
     assert_eq!(offset_of!(Account, excused), 1);
-    assert_eq!(offset_of!(Account, today), 2);
-    assert_eq!(offset_of!(Account, bank), 8);
-    assert_eq!(offset_of!(Account, mdq), 16);
-    assert_eq!(offset_of!(Account, step), 24);
-    assert_eq!(offset_of!(Account, capacity), 56);
-    assert_eq!(offset_of!(Account, month), 72);
-    assert_eq!(offset_of!(Account, carry), 128);
-    assert_eq!(offset_of!(Account, owed), 136);
-    assert_eq!(offset_of!(Account, violation_days), 144);
+    assert_eq!(offset_of!(Account, today), 8);
+    assert_eq!(offset_of!(Account, bank), 24);
+    assert_eq!(offset_of!(Account, mdq), 32);
+    assert_eq!(offset_of!(Account, step), 40);
+    assert_eq!(offset_of!(Account, capacity), 72);
+    assert_eq!(offset_of!(Account, month), 88);
+    assert_eq!(offset_of!(Account, carry), 144);
+    assert_eq!(offset_of!(Account, owed), 152);
+    assert_eq!(offset_of!(Account, violation_days), 160);
     assert_eq!(offset_of!(Ledger, touched), 1);
+    assert_eq!(offset_of!(Ledger, is_new), 2);
     assert_eq!(offset_of!(Ledger, date), 8);
     assert_eq!(offset_of!(Ledger, terms), 32);
     assert_eq!(offset_of!(Ledger, accounts), 80);

@@ -120,7 +120,7 @@ mod tests {
     use super::*;
 
     fn books() -> Books {
-        let mut ledger = nedrulov::fresh();
+        let mut ledger = nedrulov::fresh(false);
         ledger.accounts[2].opened = true;
         ledger.accounts[2].bank = 1_000;
         ledger.accounts[2].step.k = 1;

@@ -30,7 +30,7 @@ impl List {
     pub fn add(&mut self, line: usize, entry: &Entry) -> Result<(), Fault> {
         let refused = |number: u64| Fault::Entry { line, number };
         let bytes = entry.to_bytes();
-        match nedrulov::entry_number(&bytes) {
+        match nedrulov::entry_number(false, &bytes) {
             0 => {}
             number => return Err(refused(number)),
         }
