@@ -109,12 +109,13 @@ static uint64_t forfeit_of_january(bool is_new, int64_t confiscated)
     static const uint8_t deliver[32] = {3, 3, 0, 0, 0xEB, 0x07, 1, 31};
     static const uint8_t close_month[32] = {9, 0, 0, 0, 0xEB, 0x07, 1, 31};
     uint8_t entry[32] = {10, 3, 0, 0, 0xEB, 0x07, 1, 31};
+    uint64_t units = confiscated < 0 ? 0 : (uint64_t)confiscated;
     nedrulov_ledger l = first_day(is_new);
     nedrulov_account *a = &l.accounts[3];
     l.date = (nedrulov_date){2027, 1, 30};
     a->bank = 5000000;
     for (int i = 0; i < 4; i++)
-        entry[8 + i] = (uint8_t)((uint64_t)confiscated >> 8 * i);
+        entry[8 + i] = (uint8_t)(units >> 8 * i);
     entry[7] = 30;
     expect(nedrulov_post(&l, entry, 32).number == (is_new ? NEDRULOV_WRONG_DAY : NEDRULOV_NO_KIND), "the day before", 0);
     entry[7] = 31;
@@ -122,7 +123,7 @@ static uint64_t forfeit_of_january(bool is_new, int64_t confiscated)
     expect(nedrulov_entry_number(is_new, entry, 32) == (is_new ? NEDRULOV_ACCEPTED : NEDRULOV_NO_KIND), "entry", 0);
     if (confiscated >= 0) {
         expect(nedrulov_post(&l, entry, 32).number == (is_new ? NEDRULOV_ACCEPTED : NEDRULOV_NO_KIND), "CONFISCATED", 0);
-        expect(a->today.confiscated == is_new && a->today.confiscation == (is_new ? (uint64_t)confiscated : 0), "told", 0);
+        expect(a->today.confiscated == is_new && a->today.confiscation == (is_new ? units : 0), "told", 0);
         expect(nedrulov_post(&l, entry, 32).number == (is_new ? NEDRULOV_SECOND_TIME : NEDRULOV_NO_KIND), "twice", 0);
         expect(a->bank == 5000000, "CONFISCATED moved gas", 0);
     }
