@@ -1,10 +1,11 @@
 //! An archive and the list of entries in it.
 
 use crate::entry::Kind;
+use crate::rules::Rules;
 use nedrulov::ENTRY_BYTES;
 
-/// The first bytes of every archive.
-pub const OPENING: &[u8] = b"EFB1";
+/// The first bytes of every archive, an old one and a new one.
+pub const OPENINGS: [&[u8]; 2] = [b"EFB1", b"EFB2"];
 /// And a section ends with each month's closing.
 pub const MOST_SECTIONS: usize = 1_200;
 
@@ -16,6 +17,11 @@ const PAIR: usize = 8;
 pub struct Refusal {
     pub number: u64,
     pub index: usize,
+}
+
+/// Whether bytes begin as an archive does.
+pub fn opens(bytes: &[u8]) -> bool {
+    OPENINGS.iter().any(|opening| bytes.starts_with(opening))
 }
 
 /// The entries of an archive in file order, each as its bytes.
@@ -77,8 +83,8 @@ pub fn length_by_directory(archive: &[u8]) -> Length {
     }
 }
 
-/// The archive of a list.
-pub fn of_list(list: &[u8]) -> Result<Vec<u8>, Refusal> {
+/// The old or new archive of a list.
+pub fn of_list(rules: Rules, list: &[u8]) -> Result<Vec<u8>, Refusal> {
     let closes_month = |entry: &&[u8]| entry[0] == Kind::CloseMonth as u8;
     let months = list.chunks(ENTRY_BYTES).filter(closes_month).count();
     // One section more than months, for what follows the last closing.
@@ -88,7 +94,7 @@ pub fn of_list(list: &[u8]) -> Result<Vec<u8>, Refusal> {
     if archive.try_reserve_exact(length).is_ok() {
         archive.resize(length, 0);
     }
-    let written = nedrulov::write(false, list, &mut archive);
+    let written = nedrulov::write(rules.is_new(), list, &mut archive);
     archive.truncate(written.length);
     match written.number {
         0 => Ok(archive),
@@ -96,5 +102,20 @@ pub fn of_list(list: &[u8]) -> Result<Vec<u8>, Refusal> {
             number,
             index: written.index,
         }),
+    }
+}
+
+#[cfg(test)]
+mod tests {
+    use super::*;
+
+    #[test]
+    fn the_writer_opens_archives_so() {
+        for (rules, opening) in Rules::ALL.into_iter().zip(OPENINGS) {
+            let empty = of_list(rules, &[]).expect("an empty list fits");
+            assert_eq!(empty, [opening, &[0; 4]].concat());
+            assert!(opens(&empty) && Rules::of_archive(&empty) == rules);
+        }
+        assert!(!opens(b"EFB0") && !opens(b"EFB3") && !opens(b"EFB"));
     }
 }

@@ -6,6 +6,7 @@ use crate::command::{Command, COMMANDS};
 use crate::echo;
 use crate::failure::Failure;
 use crate::files;
+use crate::rules::Rules;
 use crate::words::refusal;
 use std::ffi::{OsStr, OsString};
 use std::io::{self, ErrorKind, Write};
@@ -54,7 +55,11 @@ fn run_command(command: &Command, words: &[OsString]) -> u8 {
 fn tell(command: &Command, file: &str, failure: Failure) -> u8 {
     match failure {
         Failure::Usage(message) => wrong_use(&message, &format!("efbs {} --help", command.name)),
-        Failure::Refused { refusal, next } => fail(&refused(file, refusal, &next)),
+        Failure::Refused {
+            refusal,
+            rules,
+            next,
+        } => fail(&refused(file, refusal, rules, &next)),
         Failure::Told(message) => fail(&message),
         Failure::Output(error) => unwritten(error),
     }
@@ -72,14 +77,14 @@ fn unwritten(error: io::Error) -> u8 {
 }
 
 /// A refusal in words, and what to do next.
-fn refused(name: &str, Refusal { number, index }: Refusal, next: &str) -> String {
+fn refused(name: &str, Refusal { number, index }: Refusal, rules: Rules, next: &str) -> String {
     let place = match number {
         8 | 9 | 11 => String::new(),
         _ => format!(" at entry {index}"),
     };
     format!(
         "{name} is refused with {number}{place}: {}. {next}",
-        refusal(number)
+        refusal(number, rules)
     )
 }
 

@@ -6,6 +6,7 @@ use crate::failure::Failure;
 use crate::files::{self, read_archive};
 use crate::pages;
 use crate::report::report;
+use crate::rules::Rules;
 use crate::text;
 use std::io::{BufReader, Write};
 use std::path::Path;
@@ -147,7 +148,8 @@ fn pack(arguments: &Arguments, out: &mut dyn Write) -> Result<(), Failure> {
     let path = arguments.path(0);
     let text = BufReader::new(files::open(path)?);
     let list = text::read(text).map_err(|fault| unpackable(path, fault))?;
-    Ok(out.write_all(&archive::of_list(&list)?)?)
+    let archive = archive::of_list(list.rules(), list.bytes())?;
+    Ok(out.write_all(&archive)?)
 }
 
 /// Why a text makes no archive, and what to do next.
@@ -160,6 +162,10 @@ fn unpackable(path: &Path, fault: text::Fault) -> Failure {
             return Failure::Told(format!("{name} is an archive already: {next}."));
         }
         text::Fault::Entry { number: 11, .. } => "Begin another archive.",
+        // The text format knows no kind that new rules do not.
+        text::Fault::Entry { number: 2, .. } => {
+            "It is a kind of the new rules: the text would have to begin with the line rules new; efbs help rules tells of both."
+        }
         _ => "Mend the line; docs/TEXT-FORMAT.md has the kinds and their ranges.",
     };
     Failure::Told(format!("{name}, {fault}. {next}"))
@@ -176,7 +182,8 @@ fn of_archive(
 
 fn unpack(arguments: &Arguments, out: &mut dyn Write) -> Result<(), Failure> {
     of_archive(arguments, |archive| {
-        Ok(text::write(entries(archive)?, out)?)
+        let list = entries(archive)?;
+        Ok(text::write(Rules::of_archive(archive), list, out)?)
     })
 }
 

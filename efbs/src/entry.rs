@@ -21,6 +21,8 @@ pub enum Kind {
     Usage,
     CloseDay,
     CloseMonth,
+    /// Of the new rules.
+    Confiscated,
 }
 
 #[derive(Clone, Copy, Debug, PartialEq, Eq)]
@@ -34,7 +36,7 @@ pub struct Entry {
 }
 
 impl Kind {
-    pub const ALL: [Kind; 9] = [
+    pub const ALL: [Kind; 10] = [
         Kind::Terms,
         Kind::Enrol,
         Kind::Deliver,
@@ -44,6 +46,7 @@ impl Kind {
         Kind::Usage,
         Kind::CloseDay,
         Kind::CloseMonth,
+        Kind::Confiscated,
     ];
 
     pub fn is_closing(self) -> bool {
@@ -64,7 +67,7 @@ impl Entry {
         }
     }
 
-    /// None where the kind is not 1 to 9.
+    /// None where the kind is not 1 to 10.
     pub fn from_bytes(bytes: &[u8; 32]) -> Option<Entry> {
         let kind = *Kind::ALL.get(usize::from(bytes[0]).checked_sub(1)?)?;
         let word = |i: usize| 8 + 4 * i;
@@ -138,7 +141,7 @@ mod tests {
     #[test]
     fn bytes_come_back() {
         let mut bytes: [u8; 32] = std::array::from_fn(|i| 7 * i as u8 + 3);
-        for kind in 1..=9 {
+        for kind in 1..=10 {
             bytes[0] = kind;
             assert_eq!(Entry::from_bytes(&bytes).map(|e| e.to_bytes()), Some(bytes));
         }
@@ -146,7 +149,7 @@ mod tests {
 
     #[test]
     fn other_kinds_are_none() {
-        for kind in (0..=255).filter(|kind| !(1..=9).contains(kind)) {
+        for kind in (0..=255).filter(|kind| !(1..=10).contains(kind)) {
             assert_eq!(Entry::from_bytes(&[kind; 32]), None);
         }
     }

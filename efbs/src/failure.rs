@@ -2,13 +2,18 @@
 
 use crate::archive::Refusal;
 use crate::diagnosis;
+use crate::rules::Rules;
 use std::io;
 
 pub enum Failure {
     /// The command was asked for in a way that it does not know.
     Usage(String),
-    /// The library refuses the archive, and what to do next.
-    Refused { refusal: Refusal, next: String },
+    /// The library refuses the archive, by which rules, and what to do next.
+    Refused {
+        refusal: Refusal,
+        rules: Rules,
+        next: String,
+    },
     /// What happened and what to do next.
     Told(String),
     /// The output cannot be written.
@@ -21,6 +26,7 @@ impl Failure {
         match self {
             Failure::Refused { refusal, .. } => Failure::Refused {
                 refusal,
+                rules: Rules::of_archive(archive),
                 next: diagnosis::of_archive(refusal.number, archive),
             },
             other => other,
@@ -30,8 +36,12 @@ impl Failure {
 
 impl From<Refusal> for Failure {
     fn from(refusal: Refusal) -> Failure {
-        let next = diagnosis::by_number(refusal.number);
-        Failure::Refused { refusal, next }
+        Failure::Refused {
+            refusal,
+            // Where no archive is at hand the number is one that says the same of both.
+            rules: Rules::Old,
+            next: diagnosis::by_number(refusal.number),
+        }
     }
 }
 

@@ -158,6 +158,13 @@ const CLOSE_MONTH: Form = Form {
     ],
 };
 
+const CONFISCATED: Form = Form {
+    word: "confiscated",
+    accounts: ACCOUNT,
+    flags: NO_FLAGS,
+    values: &[word("gas", 1, Unit::Gas)],
+};
+
 impl Kind {
     pub fn form(self) -> &'static Form {
         match self {
@@ -170,6 +177,7 @@ impl Kind {
             Kind::Usage => &USAGE,
             Kind::CloseDay => &CLOSE_DAY,
             Kind::CloseMonth => &CLOSE_MONTH,
+            Kind::Confiscated => &CONFISCATED,
         }
     }
 }
@@ -311,7 +319,7 @@ mod tests {
             for place in (1..3).chain(8..32) {
                 let mut bytes = blank;
                 bytes[place] = 255;
-                let unused = nedrulov::entry_number(false, &bytes) == 5;
+                let unused = nedrulov::entry_number(true, &bytes) == 5;
                 assert_eq!(
                     unused,
                     !named[place],
@@ -322,13 +330,26 @@ mod tests {
         }
     }
 
+    /// The table has one kind that old ledgers do not know, and in no other do old and new differ.
+    #[test]
+    fn one_kind_is_of_the_new_rules() {
+        for kind in Kind::ALL {
+            let bytes = Entry::blank(kind, DATE).to_bytes();
+            let numbers = [false, true].map(|is_new| nedrulov::entry_number(is_new, &bytes));
+            match kind {
+                Kind::Confiscated => assert_eq!(numbers, [2, 0]),
+                _ => assert_eq!(numbers[0], numbers[1]),
+            }
+        }
+    }
+
     #[test]
     fn forms_name_the_flags_that_the_library_uses() {
         for kind in Kind::ALL {
             for flags in 0..=255 {
                 let mut entry = Entry::blank(kind, DATE);
                 entry.flags = flags;
-                let unused = nedrulov::entry_number(false, &entry.to_bytes()) == 5;
+                let unused = nedrulov::entry_number(true, &entry.to_bytes()) == 5;
                 let told: u8 = kind.form().flags.list().iter().map(|flag| flag.bits).sum();
                 assert_eq!(
                     unused,

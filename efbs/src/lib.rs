@@ -18,6 +18,7 @@ pub mod movements;
 pub mod pages;
 pub mod replay;
 pub mod report;
+pub mod rules;
 pub mod shown;
 pub mod statement;
 pub mod text;

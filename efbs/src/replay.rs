@@ -1,7 +1,8 @@
-//! An archive's entries posted, in file order, to a fresh ledger.
+//! An archive's entries posted, in file order, to a fresh ledger, old or new as the archive is.
 
 use crate::archive::{entries, Refusal};
 use crate::entry::Entry;
+use crate::rules::Rules;
 use nedrulov::{Answer, Ledger};
 use std::convert::Infallible;
 use std::ops::ControlFlow;
@@ -20,8 +21,7 @@ impl Step<'_> {
     }
 }
 
-/// Checks the archive, then posts its entries in file order to a fresh ledger, new if the archive is, and shows each
-/// step; the last ledger.
+/// Checks the archive, then posts its entries in file order to a fresh ledger and shows each step; the last ledger.
 pub fn replay(archive: &[u8], mut see: impl FnMut(&Step)) -> Result<Ledger, Refusal> {
     let ended = replay_while(archive, |step| {
         see(step);
@@ -38,7 +38,7 @@ pub fn replay_while<B>(
     archive: &[u8],
     mut see: impl FnMut(&Step) -> ControlFlow<B>,
 ) -> Result<ControlFlow<B, Ledger>, Refusal> {
-    let mut after = nedrulov::fresh(nedrulov::is_new(archive));
+    let mut after = nedrulov::fresh(Rules::of_archive(archive).is_new());
     let mut before = after;
     for (index, bytes) in entries(archive)?.enumerate() {
         let answer = nedrulov::post(&mut after, bytes);

@@ -1,9 +1,12 @@
 //! What numbers mean, in words.
 
+use crate::rules::Rules;
+
 /// The meaning of a refusal's number.
-pub fn refusal(number: u64) -> &'static str {
+pub fn refusal(number: u64, rules: Rules) -> &'static str {
     match number {
         1 => "the entry is not 32 bytes long",
+        2 if rules.is_new() => "the kind is none of the ten",
         2 => "the kind is none of the nine",
         3 => "there is no such date in 2000 to 2099",
         4 => "an account is above 15",
@@ -22,6 +25,9 @@ pub fn refusal(number: u64) -> &'static str {
         23 => "not the day for an entry of this kind",
         24 => "the account is not open, or is to be enrolled and is open already",
         25 => "the supplier stays on FBS",
+        26 if rules.is_new() => {
+            "a second delivery or confiscation that day, or measurement or usage that month"
+        }
         26 => "a second delivery that day, or measurement or usage that month",
         27 => "an open account still lacks its delivery, measurement or usage",
         28 => "the opening, transfer or trade would pass its limit",
@@ -86,16 +92,19 @@ mod tests {
     /// where memory is short, 20 of no list of postings. Their words are held here.
     #[test]
     fn every_number_has_words_of_its_own() {
-        let words: Vec<_> = (1..=13).chain(20..=29).map(refusal).collect();
-        let different: HashSet<_> = words.iter().collect();
-        assert_eq!(different.len(), 23);
-        for number in [0, 14, 19, 30, u64::MAX] {
-            assert!(!words.contains(&refusal(number)), "{number}");
+        for rules in Rules::ALL {
+            let refusal = |number| refusal(number, rules);
+            let words: Vec<_> = (1..=13).chain(20..=29).map(refusal).collect();
+            let different: HashSet<_> = words.iter().collect();
+            assert_eq!(different.len(), 23);
+            for number in [0, 14, 19, 30, u64::MAX] {
+                assert!(!words.contains(&refusal(number)), "{number}");
+            }
+            assert!(refusal(1).contains("32 bytes"));
+            assert!(refusal(12).contains("output"));
+            assert!(refusal(13).contains("section"));
+            assert!(refusal(20).contains("range"));
         }
-        assert!(refusal(1).contains("32 bytes"));
-        assert!(refusal(12).contains("output"));
-        assert!(refusal(13).contains("section"));
-        assert!(refusal(20).contains("range"));
     }
 
     #[test]

@@ -1,7 +1,7 @@
 //! Input: a file, or standard input by the name of -.
 
 use super::standard;
-use crate::archive::OPENING;
+use crate::archive::opens;
 use crate::echo;
 use crate::failure::Failure;
 use std::fs::File;
@@ -50,7 +50,7 @@ pub fn read_archive(path: &Path) -> Result<Vec<u8>, Failure> {
 fn read_from(mut file: File) -> io::Result<Vec<u8>> {
     let mut bytes = Vec::new();
     file.by_ref().take(BEGINNING).read_to_end(&mut bytes)?;
-    if bytes.starts_with(OPENING) {
+    if opens(&bytes) {
         let length = file.metadata().map_or(0, |about| about.len().min(ENOUGH));
         bytes.try_reserve_exact(length as usize)?;
         file.take(ENOUGH - BEGINNING).read_to_end(&mut bytes)?;

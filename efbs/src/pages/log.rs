@@ -6,6 +6,7 @@ use crate::failure::Failure;
 use crate::form::Value;
 use crate::movements::{reported_movements, Movement, Movements};
 use crate::replay::Step;
+use crate::rules::Rules;
 use crate::shown;
 use crate::words::{numbered_violation, refusal, violation_list};
 use nedrulov::{Account, Report, ACCOUNTS, ENTRY_BYTES};
@@ -177,7 +178,8 @@ fn in_words(entry: &Entry) -> String {
 /// What an entry that is no closing did, or why it was refused.
 fn effect(step: &Step, moved: &[Movement], choice: Choice) -> String {
     if !step.accepted() {
-        return format!("; {}", refusal(step.answer.number));
+        let why = refusal(step.answer.number, Rules::of_ledger(step.after));
+        return format!("; {why}");
     }
     let after = &step.after.accounts[usize::from(step.entry.a)];
     match step.entry.kind {

@@ -1,8 +1,9 @@
 //! A list of entries that grows up to what an archive can hold.
 
-use super::Fault;
+use super::{Fault, RULES};
 use crate::archive::MOST_SECTIONS;
 use crate::entry::{Entry, Kind};
+use crate::rules::Rules;
 use std::io;
 
 /// What an archive can have at most; the library has the last word.
@@ -10,6 +11,8 @@ const MOST_BYTES: usize = u32::MAX as usize;
 const TOO_MUCH: u64 = 11;
 
 pub struct List {
+    /// As a line of the text names them.
+    named: Option<Rules>,
     bytes: Vec<u8>,
     months: usize,
     most_bytes: usize,
@@ -18,6 +21,7 @@ pub struct List {
 impl Default for List {
     fn default() -> List {
         List {
+            named: None,
             bytes: Vec::new(),
             months: 0,
             most_bytes: MOST_BYTES,
@@ -26,11 +30,35 @@ impl Default for List {
 }
 
 impl List {
+    /// Old where none are named: every text that was written before there were new ones names none.
+    pub fn rules(&self) -> Rules {
+        self.named.unwrap_or(Rules::Old)
+    }
+
+    /// Takes the rules that a line names, or tells why they may not stand there.
+    pub fn name_rules(&mut self, rules: Rules) -> Result<(), String> {
+        if self.named.is_some() {
+            return Err(format!("\"{RULES}\" stands twice"));
+        }
+        if !self.bytes.is_empty() {
+            return Err(format!(
+                "\"{RULES}\" stands after an entry; it belongs before the first"
+            ));
+        }
+        self.named = Some(rules);
+        Ok(())
+    }
+
     /// Takes the entry of a line, unless the library refuses it or no archive could hold it beside the others.
     pub fn add(&mut self, line: usize, entry: &Entry) -> Result<(), Fault> {
-        let refused = |number: u64| Fault::Entry { line, number };
+        let rules = self.rules();
+        let refused = |number: u64| Fault::Entry {
+            line,
+            number,
+            rules,
+        };
         let bytes = entry.to_bytes();
-        match nedrulov::entry_number(false, &bytes) {
+        match nedrulov::entry_number(rules.is_new(), &bytes) {
             0 => {}
             number => return Err(refused(number)),
         }
@@ -44,8 +72,8 @@ impl List {
         Ok(())
     }
 
-    pub fn into_bytes(self) -> Vec<u8> {
-        self.bytes
+    pub fn bytes(&self) -> &[u8] {
+        &self.bytes
     }
 }
 
@@ -57,6 +85,29 @@ mod tests {
     fn closing(kind: Kind) -> Entry {
         let (year, month, day) = (2026, 4, 30);
         Entry::blank(kind, Day { year, month, day })
+    }
+
+    #[test]
+    fn rules_are_named_once_and_before_the_first_entry() {
+        let mut list = List::default();
+        assert_eq!(list.rules(), Rules::Old);
+        assert_eq!(list.name_rules(Rules::New), Ok(()));
+        assert!(list.name_rules(Rules::New).is_err());
+        assert_eq!(list.rules(), Rules::New);
+        let mut list = List::default();
+        assert!(list.add(1, &closing(Kind::CloseDay)).is_ok());
+        assert!(list.name_rules(Rules::Old).is_err());
+    }
+
+    #[test]
+    fn kinds_of_the_new_rules_need_them() {
+        for (rules, taken) in [(Rules::Old, false), (Rules::New, true)] {
+            let mut list = List::default();
+            assert_eq!(list.name_rules(rules), Ok(()));
+            let added = list.add(1, &closing(Kind::Confiscated));
+            assert_eq!(added.is_ok(), taken);
+            assert!(taken || matches!(added, Err(Fault::Entry { number: 2, .. })));
+        }
     }
 
     #[test]
@@ -73,11 +124,12 @@ mod tests {
                 Ok(()),
                 Err(Fault::Entry {
                     line: 3,
-                    number: 11
+                    number: 11,
+                    ..
                 })
             ]
         ));
-        assert_eq!(list.into_bytes().len(), 64);
+        assert_eq!(list.bytes().len(), 64);
     }
 
     #[test]

@@ -1,10 +1,11 @@
 //! Text to entries.
 
-use super::list::List;
-use crate::archive::OPENING;
+use super::{List, RULES};
+use crate::archive::opens;
 use crate::echo;
 use crate::entry::{Entry, Kind};
 use crate::form::{Flags, Form, Value};
+use crate::rules::Rules;
 use crate::shown::whole;
 use crate::words::refusal;
 use std::collections::HashSet;
@@ -29,6 +30,7 @@ pub enum Fault {
     Entry {
         line: usize,
         number: u64,
+        rules: Rules,
     },
     /// It is no text but an archive already.
     Archive,
@@ -43,12 +45,13 @@ impl fmt::Display for Fault {
                 column,
                 message,
             } => write!(f, "line {line}, column {column}: {message}"),
-            Fault::Entry { line, number } => {
-                write!(
-                    f,
-                    "line {line}: refused with {number}: {}",
-                    refusal(*number)
-                )
+            Fault::Entry {
+                line,
+                number,
+                rules,
+            } => {
+                let why = refusal(*number, *rules);
+                write!(f, "line {line}: refused with {number}: {why}")
             }
             Fault::Archive => write!(f, "an archive already"),
             Fault::Unreadable(error) => write!(f, "{error}"),
@@ -56,12 +59,12 @@ impl fmt::Display for Fault {
     }
 }
 
-/// The entries of a text as a list of bytes; each is one that the library takes by itself.
-pub fn read(text: impl BufRead) -> Result<Vec<u8>, Fault> {
+/// The entries of a text as a list; each is one that the library takes by itself, under the rules of the text.
+pub fn read(text: impl BufRead) -> Result<List, Fault> {
     read_lines(text, MOST_LINES)
 }
 
-fn read_lines(mut text: impl BufRead, most: usize) -> Result<Vec<u8>, Fault> {
+fn read_lines(mut text: impl BufRead, most: usize) -> Result<List, Fault> {
     let mut list = List::default();
     let mut bytes = Vec::new();
     for line in 1..=most {
@@ -70,20 +73,12 @@ fn read_lines(mut text: impl BufRead, most: usize) -> Result<Vec<u8>, Fault> {
         let mut beginning = text.by_ref().take(LONGEST_LINE as u64 + 1);
         let length = beginning.read_until(b'\n', &mut bytes);
         match length.map_err(Fault::Unreadable)? {
-            0 => return Ok(list.into_bytes()),
-            _ if line == 1 && bytes.starts_with(OPENING) => return Err(Fault::Archive),
+            0 => return Ok(list),
+            _ if line == 1 && opens(&bytes) => return Err(Fault::Archive),
             length if length > LONGEST_LINE => return Err(too_long(line)),
             _ => {}
         }
-        let content = String::from_utf8_lossy(&bytes);
-        let entry = read_line(&content).map_err(|wrong| Fault::Text {
-            line,
-            column: wrong.column,
-            message: wrong.message,
-        })?;
-        if let Some(entry) = entry {
-            list.add(line, &entry)?;
-        }
+        read_line(&mut list, line, &String::from_utf8_lossy(&bytes))?;
     }
     Err(Fault::Text {
         line: most,
@@ -127,6 +122,14 @@ impl Token<'_> {
     fn expected(&self, what: &str) -> Wrong {
         self.wrong(format!("expected {what}; found {}", echo::word(self.text)))
     }
+
+    /// Where it is the last of its line and something has to follow.
+    fn followed_by(&self, what: &str) -> Wrong {
+        Wrong {
+            column: self.end() + 1,
+            message: format!("expected {what}"),
+        }
+    }
 }
 
 /// Up to a comment, which begins with # at the start of the line or after a blank.
@@ -147,20 +150,47 @@ fn tokens(line: &str) -> Vec<Token<'_>> {
     found
 }
 
-/// The entry of a line, if it has one.
-fn read_line(line: &str) -> Result<Option<Entry>, Wrong> {
-    let tokens = tokens(line);
-    let Some((date, rest)) = tokens.split_first() else {
-        return Ok(None);
+/// Takes what a line has, if it has anything: the rules or an entry.
+fn read_line(list: &mut List, line: usize, content: &str) -> Result<(), Fault> {
+    let in_line = |wrong: Wrong| Fault::Text {
+        line,
+        column: wrong.column,
+        message: wrong.message,
     };
+    let tokens = tokens(content);
+    match tokens.split_first() {
+        None => Ok(()),
+        Some((first, rest)) if first.text == RULES => {
+            read_rules(list, first, rest).map_err(in_line)
+        }
+        Some((first, rest)) => list.add(line, &read_entry(first, rest).map_err(in_line)?),
+    }
+}
+
+fn read_rules(list: &mut List, word: &Token, rest: &[Token]) -> Result<(), Wrong> {
+    let words = Rules::ALL.map(Rules::word).join(" or ");
+    let Some((named, more)) = rest.split_first() else {
+        return Err(word.followed_by(&words));
+    };
+    let rules = Rules::ALL
+        .into_iter()
+        .find(|rules| rules.word() == named.text)
+        .ok_or_else(|| named.expected(&words))?;
+    if let Some(extra) = more.first() {
+        return Err(extra.expected(&format!("nothing more after {RULES} {}", rules.word())));
+    }
+    list.name_rules(rules)
+        .map_err(|message| word.wrong(message))
+}
+
+fn read_entry(date: &Token, rest: &[Token]) -> Result<Entry, Wrong> {
+    let end = rest.last().unwrap_or(date).end();
     let day = date
         .text
         .parse()
         .map_err(|()| date.expected("a date, as 2026-04-01"))?;
     let Some((kind, rest)) = rest.split_first() else {
-        let column = date.end() + 1;
-        let message = format!("expected a kind of entry: {}", kinds());
-        return Err(Wrong { column, message });
+        return Err(date.followed_by(&format!("a kind of entry: {}", kinds())));
     };
     let kind = Kind::ALL
         .into_iter()
@@ -168,9 +198,8 @@ fn read_line(line: &str) -> Result<Option<Entry>, Wrong> {
         .ok_or_else(|| kind.expected(&format!("a kind of entry: {}", kinds())))?;
     let mut entry = Entry::blank(kind, day);
     let seen = read_values(&mut entry, rest)?;
-    let end = tokens.last().map_or(1, Token::end);
     nothing_missing(kind.form(), &seen, end)?;
-    Ok(Some(entry))
+    Ok(entry)
 }
 
 fn kinds() -> String {
@@ -270,6 +299,7 @@ fn nothing_missing(form: &Form, seen: &HashSet<&str>, end: usize) -> Result<(), 
 #[cfg(test)]
 mod tests {
     use super::*;
+    use crate::archive::OPENINGS;
 
     const LINE: &[u8] = b"2026-04-01 close-day\n";
 
@@ -286,14 +316,52 @@ mod tests {
     fn the_longest_line() {
         let comment = |length: usize| [LINE, &vec![b'#'; length - 1], b"\n", LINE].concat();
         let lists = [LONGEST_LINE, LONGEST_LINE + 1].map(|length| read(&comment(length)[..]));
-        assert!(matches!(&lists[0], Ok(list) if list.len() == 64));
+        assert!(matches!(&lists[0], Ok(list) if list.bytes().len() == 64));
         assert!(matches!(&lists[1], Err(Fault::Text { line: 2, .. })));
     }
 
     #[test]
     fn archives_are_no_texts() {
-        assert!(matches!(read(&b"EFB1\0\0\0\0"[..]), Err(Fault::Archive)));
-        let later = [LINE, b"EFB1"].concat();
-        assert!(matches!(read(&later[..]), Err(Fault::Text { line: 2, .. })));
+        for opening in OPENINGS {
+            let archive = [opening, &[0; 4]].concat();
+            assert!(matches!(read(&archive[..]), Err(Fault::Archive)));
+            let later = [LINE, opening].concat();
+            assert!(matches!(read(&later[..]), Err(Fault::Text { line: 2, .. })));
+        }
+    }
+
+    #[test]
+    fn rules_are_read() {
+        for (text, rules) in [
+            (&b""[..], Rules::Old),
+            (b"2026-04-01 close-day\n", Rules::Old),
+            (b"rules old\n", Rules::Old),
+            (b"rules new", Rules::New),
+            (
+                b"\xef\xbb\xbf# a comment\r\n\r\n\trules  new # another\r\n2026-04-01 close-day\n",
+                Rules::New,
+            ),
+        ] {
+            assert!(matches!(read(text), Ok(list) if list.rules() == rules));
+        }
+    }
+
+    #[test]
+    fn wrong_rules_are_told_with_their_place() {
+        for (text, place) in [
+            ("rules\n", (1, 7)),
+            ("rules newer\n", (1, 7)),
+            ("rules New\n", (1, 7)),
+            ("rules old new\n", (1, 11)),
+            (" rules=new\n", (1, 2)),
+            ("rules new\n\n  rules new\n", (3, 3)),
+            ("2026-04-01 close-day\nrules old\n", (2, 1)),
+        ] {
+            let told = match read(text.as_bytes()) {
+                Err(Fault::Text { line, column, .. }) => (line, column),
+                _ => (0, 0),
+            };
+            assert_eq!(told, place, "{text}");
+        }
     }
 }

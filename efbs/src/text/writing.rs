@@ -1,6 +1,8 @@
 //! Entries to text.
 
+use super::RULES;
 use crate::entry::{Entry, Kind};
+use crate::rules::Rules;
 use std::io::{self, Write};
 
 /// An entry as one line, without its end.
@@ -17,8 +19,13 @@ pub fn line(entry: &Entry) -> String {
     line
 }
 
-/// A list of entries, with an empty line after each month.
-pub fn write<'a>(list: impl Iterator<Item = &'a [u8; 32]>, out: &mut dyn Write) -> io::Result<()> {
+/// The rules, then a list of entries with an empty line after each month.
+pub fn write<'a>(
+    rules: Rules,
+    list: impl Iterator<Item = &'a [u8; 32]>,
+    out: &mut dyn Write,
+) -> io::Result<()> {
+    writeln!(out, "{RULES} {}", rules.word())?;
     for entry in list.filter_map(Entry::from_bytes) {
         writeln!(out, "{}", line(&entry))?;
         if entry.kind == Kind::CloseMonth {

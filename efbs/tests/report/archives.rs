@@ -5,6 +5,7 @@ use efbs::archive::of_list;
 use efbs::entry::Kind;
 use efbs::replay::{replay, Step};
 use efbs::report::report;
+use efbs::rules::Rules;
 use nedrulov::Ledger;
 
 pub const EMPTY: &[u8] = b"EFB1\0\0\0\0";
@@ -28,7 +29,7 @@ pub fn crowded() -> Vec<u8> {
         }
         list.extend(entry.to_bytes());
     });
-    of_list(&list).expect("the list fits")
+    of_list(Rules::Old, &list).expect("the list fits")
 }
 
 /// The sample up to and with its closing of a day.
@@ -42,7 +43,7 @@ pub fn sample_until(last: &str) -> Vec<u8> {
             ended = step.entry.date == last && step.entry.kind.is_closing();
         }
     });
-    of_list(&list).expect("the list fits")
+    of_list(Rules::Old, &list).expect("the list fits")
 }
 
 /// The pages that every general test goes over.
