@@ -6,7 +6,7 @@ use crate::command::{Command, COMMANDS};
 use crate::echo;
 use crate::failure::Failure;
 use crate::files;
-use crate::rules::Rules;
+use crate::rules::{self, Rules};
 use crate::words::refusal;
 use std::ffi::{OsStr, OsString};
 use std::io::{self, ErrorKind, Write};
@@ -23,7 +23,7 @@ pub fn run(words: &[OsString]) -> u8 {
     if first == "help" || asks_help(first) {
         return match rest.first() {
             None => say(&overview()),
-            Some(name) => named(name).map_or_else(|| no_command(name), |known| say(&help(known))),
+            Some(name) => help_on(name),
         };
     }
     match named(first) {
@@ -35,6 +35,14 @@ pub fn run(words: &[OsString]) -> u8 {
 
 fn named(name: &OsStr) -> Option<&'static Command> {
     COMMANDS.iter().find(|command| name == command.name)
+}
+
+fn help_on(name: &OsStr) -> u8 {
+    match named(name) {
+        Some(command) => say(&help(command)),
+        None if name == rules::TOPIC => say(rules::HELP),
+        None => no_command(name),
+    }
 }
 
 fn run_command(command: &Command, words: &[OsString]) -> u8 {
@@ -127,7 +135,7 @@ fn overview() -> String {
 Gas is in Dth and money in dollars unless said otherwise. A.efb is an archive, N an account from 0 to 15.
 As a file - is standard input, and after -o standard output. A file after -o is replaced whole or not at all.
 Exit status: 0 done; 1 refused, not readable or not in agreement; 2 asked for in a wrong way.
-efbs COMMAND --help tells more of a command.
+efbs COMMAND --help tells more of a command, efbs help rules of old and new archives.
 "
 }
 

@@ -55,6 +55,7 @@ const PACK: Command = Command {
     about: "make an archive of entries written as text",
     help: "\
 The text has one entry a line; docs/TEXT-FORMAT.md describes it, and unpack shows it.
+A line \"rules new\" before the first entry makes a new archive, \"rules old\" or none an old one: efbs help rules.
 An entry that the ledger would refuse is archived all the same; one that is no entry is an error.",
     run: pack,
 };

@@ -2,6 +2,26 @@
 
 use nedrulov::Ledger;
 
+/// What efbs help tells of them, and under which name.
+pub const TOPIC: &str = "rules";
+pub const HELP: &str = "\
+An archive is old or new, by the rule that its forfeits go by. Forfeits are taken as January and March close.
+
+  old   A supplier loses all gas above 65 percent of its BCQ in January, above 25 percent in March.
+        The archive begins with EFB1.
+  new   It loses the smaller of that excess and what the storage provider confiscated.
+        The archive begins with EFB2.
+
+A text says which it is before its first entry, by the line \"rules old\" or \"rules new\"; one that says nothing is old.
+unpack always writes the line, and pack makes the archive by it. A new text has one more kind of entry:
+
+  2027-01-31 confiscated account=3 gas=1200.00
+
+It is for January 31 and March 31, once for each account and day, and moves no gas: the close-month of that day reports
+the forfeit. Where none is posted, nothing is forfeited. Old texts and archives have no such kind; there it is refused
+with 2. What is posted stays with its rule: an old archive does not become new.
+";
+
 #[derive(Clone, Copy, Debug, PartialEq, Eq)]
 pub enum Rules {
     /// At the ends of January and March a supplier forfeits all gas above a share of its BCQ.
