@@ -61,6 +61,13 @@ impl Rules {
             Rules::New => "new",
         }
     }
+
+    /// What a page says of its forfeits. Pages of old archives are what they were before there were new ones.
+    pub fn note(self) -> Option<&'static str> {
+        self.is_new().then_some(
+            "New rules: a forfeit is the smaller of the excess and what the storage provider confiscated.",
+        )
+    }
 }
 
 #[cfg(test)]

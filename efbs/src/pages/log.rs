@@ -4,12 +4,12 @@ use super::{never_enrolled, show};
 use crate::entry::{Entry, Kind};
 use crate::failure::Failure;
 use crate::form::Value;
-use crate::movements::{reported_movements, Movement, Movements};
+use crate::movements::{reported_movements, Cause, Movement, Movements};
 use crate::replay::Step;
 use crate::rules::Rules;
 use crate::shown;
 use crate::words::{numbered_violation, refusal, violation_list};
-use nedrulov::{Account, Report, ACCOUNTS, ENTRY_BYTES};
+use nedrulov::{Account, Report, Today, ACCOUNTS, ENTRY_BYTES};
 use std::io::{self, Write};
 
 /// Which entries are shown.
@@ -68,6 +68,7 @@ pub fn write(archive: &[u8], choice: Choice, out: &mut dyn Write) -> Result<(), 
     let (mut whole, mut shown) = (Tally::default(), Tally::default());
     let mut log = Log {
         choice,
+        head: Rules::of_archive(archive).note(),
         width: (archive.len() / ENTRY_BYTES).to_string().len(),
         out,
     };
@@ -84,7 +85,8 @@ pub fn write(archive: &[u8], choice: Choice, out: &mut dyn Write) -> Result<(), 
         .account
         .filter(|account| !movements.is_enrolled(*account));
     if stranger.is_none() || shown.all() > 0 {
-        write_totals(&whole, &shown, choice, out)?;
+        log.write_head()?;
+        write_totals(&whole, &shown, choice, log.out)?;
     }
     match stranger {
         Some(account) => Err(never_enrolled(account)),
@@ -113,13 +115,23 @@ fn write_totals(
 
 struct Log<'a> {
     choice: Choice,
+    /// Stands above the first line, if there is any.
+    head: Option<&'static str>,
     /// Of the entries' indices.
     width: usize,
     out: &'a mut dyn Write,
 }
 
 impl Log<'_> {
+    fn write_head(&mut self) -> io::Result<()> {
+        match self.head.take() {
+            Some(head) => writeln!(self.out, "{head}"),
+            None => Ok(()),
+        }
+    }
+
     fn write_step(&mut self, step: &Step, moved: &[Movement]) -> io::Result<()> {
+        self.write_head()?;
         let (index, date, width) = (step.index, step.entry.date, self.width);
         let answer = match step.answer.number {
             0 => "accepted".to_string(),
@@ -229,7 +241,7 @@ fn capacity(account: &Account) -> String {
 fn closing_parts(step: &Step, account: usize) -> Vec<String> {
     let report = &step.answer.reports[account];
     let [before, after] = [step.before, step.after].map(|ledger| &ledger.accounts[account]);
-    let mut parts = reported(report);
+    let mut parts = reported(report, &before.today);
     if step.entry.kind == Kind::CloseMonth && after.opened {
         let (bill, owed) = (shown::money(report.bill), shown::money(after.owed));
         parts.push(format!("bill ${bill}, owed ${owed}"));
@@ -244,14 +256,22 @@ fn closing_parts(step: &Step, account: usize) -> Vec<String> {
     parts
 }
 
-/// Violations, cash and forfeit.
-fn reported(report: &Report) -> Vec<String> {
+/// Violations, cash and forfeit. Where gas was confiscated the forfeit is told beside it, be it of nothing.
+fn reported(report: &Report, today: &Today) -> Vec<String> {
     let violated = violation_list(report.mask).into_iter();
     let mut parts: Vec<String> = violated.map(numbered_violation).collect();
-    let moved = reported_movements(report);
+    let told_below = |cause: Cause| today.confiscated && cause == Cause::Forfeit;
+    let moved = reported_movements(report).filter(|(cause, _)| !told_below(*cause));
     parts.extend(moved.map(|(cause, units)| {
         let size = shown::gas(units.abs());
         format!("{} {size} Dth", cause.name())
     }));
+    if today.confiscated {
+        let amounts = [report.forfeit, today.confiscation];
+        let [forfeit, confiscated] = amounts.map(|units| shown::gas(units as i64));
+        parts.push(format!(
+            "forfeit {forfeit} Dth of {confiscated} Dth confiscated"
+        ));
+    }
     parts
 }
