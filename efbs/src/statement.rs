@@ -1,11 +1,11 @@
 //! The statement of a supplier: its bank, its debt and its violation days, added up from entries and answers.
 
 use crate::archive::Refusal;
-use crate::entry::{Day, Kind};
+use crate::entry::{Day, Entry, Kind};
 use crate::movements::{Cause, Movement, Movements};
 use crate::replay::{replay, Step};
 use crate::words::violation_list;
-use nedrulov::{Ledger, ACCOUNTS};
+use nedrulov::{Ledger, Report, ACCOUNTS};
 
 /// The terms of one supplier's bank, added up from entries and answers (never read from the ledger).
 /// Every term is a size; `terms` takes away what left the bank. Only deliveries, being net, have a sign.
@@ -21,6 +21,8 @@ pub struct Statement {
     pub cash_ins: i64,
     pub cash_outs: i64,
     pub forfeits: i64,
+    /// No term: what is confiscated moves no gas by itself.
+    pub confiscations: Vec<Confiscation>,
     pub bills: Vec<Bill>,
     pub violation_days: u64,
     /// Days on which each of V1 to V8 was reported.
@@ -35,6 +37,15 @@ pub struct Statement {
 pub struct Bill {
     pub date: Day,
     pub mills: i64,
+}
+
+/// What the storage provider confiscated on a day, and what the closing of that day then forfeited.
+#[derive(Clone, Copy, Debug, PartialEq, Eq)]
+pub struct Confiscation {
+    pub date: Day,
+    pub units: i64,
+    /// None where the day is not closed.
+    pub forfeit: Option<i64>,
 }
 
 impl Statement {
@@ -64,6 +75,13 @@ impl Statement {
         self.bills.iter().map(|bill| bill.mills).sum()
     }
 
+    /// The sums over the days on which gas was confiscated.
+    pub fn confiscated_and_forfeited(&self) -> [i64; 2] {
+        let days = self.confiscations.iter();
+        let forfeits = days.clone().filter_map(|day| day.forfeit);
+        [days.map(|day| day.units).sum(), forfeits.sum()]
+    }
+
     /// Whether bank, debt and violation days are what the ledger says.
     pub fn agrees(&self) -> bool {
         self.sum() == self.bank && self.owed_sum() == self.owed && self.violation_days == self.days
@@ -81,6 +99,22 @@ impl Statement {
             Cause::CashIn => self.cash_ins += units,
             Cause::CashOut => self.cash_outs -= units,
             Cause::Forfeit => self.forfeits -= units,
+        }
+    }
+
+    fn add_confiscation(&mut self, entry: &Entry) {
+        self.confiscations.push(Confiscation {
+            date: entry.date,
+            units: i64::from(entry.words[0]),
+            forfeit: None,
+        });
+    }
+
+    /// The closing of a day that something was confiscated on.
+    fn close_confiscation(&mut self, date: Day, report: &Report) {
+        let today = self.confiscations.last_mut().filter(|c| c.date == date);
+        if let Some(confiscation) = today {
+            confiscation.forfeit = Some(report.forfeit as i64);
         }
     }
 
@@ -150,6 +184,22 @@ impl Sums {
         }
         for (statement, report) in self.accounts.iter_mut().zip(&step.answer.reports) {
             statement.add_violations(report.mask);
+        }
+        if step.accepted() {
+            self.add_confiscations(step);
+        }
+    }
+
+    fn add_confiscations(&mut self, step: &Step) {
+        let entry = &step.entry;
+        match entry.kind {
+            Kind::Confiscated => self.accounts[usize::from(entry.a)].add_confiscation(entry),
+            Kind::CloseMonth => {
+                for (statement, report) in self.accounts.iter_mut().zip(&step.answer.reports) {
+                    statement.close_confiscation(entry.date, report);
+                }
+            }
+            _ => {}
         }
     }
 

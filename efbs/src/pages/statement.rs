@@ -4,7 +4,9 @@ use super::never_enrolled;
 use crate::amounts::{gas, grouped, money};
 use crate::entry::Day;
 use crate::failure::Failure;
-use crate::statement::{books, Books, Statement};
+use crate::rules::Rules;
+use crate::shown;
+use crate::statement::{books, Books, Confiscation, Statement};
 use crate::words::numbered_violation;
 use std::io::Write;
 
@@ -15,12 +17,16 @@ pub fn write(
     out: &mut dyn Write,
 ) -> Result<(), Failure> {
     let books = books(archive, until)?;
-    let head = until.map(|day| format!("Entries dated up to and with {day}.\n"));
+    let reach = until.map(|day| format!("Entries dated up to and with {day}.\n"));
+    let rules = Rules::of_ledger(&books.ledger).note();
+    let head = reach
+        .into_iter()
+        .chain(rules.map(|note| format!("{note}\n")));
     let (page, agree) = match account {
         Some(account) => one(&books, account, until)?,
         None => all(&books),
     };
-    let page = head.unwrap_or_default() + &page;
+    let page = head.collect::<String>() + &page;
     out.write_all(page.trim_start().as_bytes())?;
     match agree {
         true => Ok(()),
@@ -59,7 +65,8 @@ fn all(books: &Books) -> (String, bool) {
 
 fn page(statement: &Statement) -> String {
     let title = format!("\nSUPPLIER {}\n", statement.account);
-    title + &bank(statement) + &bills(statement) + &violations(statement)
+    let bank = bank(statement) + &forfeits(statement);
+    title + &bank + &bills(statement) + &violations(statement)
 }
 
 fn bank(s: &Statement) -> String {
@@ -70,6 +77,28 @@ fn bank(s: &Statement) -> String {
         .collect();
     let sums = compared("sum", "bank in the ledger", [s.sum(), s.bank].map(gas));
     head("Bank", "Dth") + &rows + &sums
+}
+
+/// What was forfeited beside what was confiscated, of a supplier that had gas confiscated.
+fn forfeits(s: &Statement) -> String {
+    if s.confiscations.is_empty() {
+        return String::new();
+    }
+    let day = |c: &Confiscation| {
+        let forfeit = c.forfeit.map_or("not closed".to_string(), shown::gas);
+        two_columns(&c.date.to_string(), &shown::gas(c.units), &forfeit)
+    };
+    let rows: String = s.confiscations.iter().map(day).collect();
+    let [confiscated, forfeited] = s.confiscated_and_forfeited().map(shown::gas);
+    let head = format!(
+        "\n  {:<30}{:>18}{:>18}\n",
+        "Forfeits, Dth", "confiscated", "forfeited"
+    );
+    head + &rows + &two_columns("sum", &confiscated, &forfeited)
+}
+
+fn two_columns(name: &str, first: &str, second: &str) -> String {
+    format!("    {name:<28}{first:>18}{second:>18}\n")
 }
 
 fn bills(s: &Statement) -> String {
@@ -146,6 +175,30 @@ mod tests {
         let (page, agree) = all(&books());
         assert!(agree && page.matches("  agrees\n").count() == 4);
         assert!(!page.contains("DIFFERS"));
+    }
+
+    #[test]
+    fn forfeits_stand_beside_confiscations() {
+        let mut books = books();
+        let day = |date: &str, units, forfeit| Confiscation {
+            date: date.parse().expect("a date"),
+            units,
+            forfeit,
+        };
+        books.statements[0].confiscations = vec![
+            day("2027-01-31", 123_456, Some(100_000)),
+            day("2027-03-31", 0, None),
+        ];
+        let (page, agree) = all(&books);
+        assert!(agree, "no term of the bank");
+        for line in [
+            "  Forfeits, Dth                        confiscated         forfeited\n",
+            "    2027-01-31                            1,234.56          1,000.00\n",
+            "    2027-03-31                                0.00        not closed\n",
+            "    sum                                   1,234.56          1,000.00\n",
+        ] {
+            assert!(page.contains(line), "{page}");
+        }
     }
 
     #[test]
