@@ -19,6 +19,7 @@ mod year_sheet;
 
 use crate::archive::Refusal;
 use crate::replay::replay;
+use crate::rules::Rules;
 use crate::statement::Sums;
 use crate::year_sheet::OpenAtClosings;
 use gas_year::GasYear;
@@ -34,7 +35,7 @@ pub fn report(archive: &[u8], year: u16) -> Result<String, Refusal> {
         sums.add(step);
     })?;
     let parts = [
-        page::panel(&gas_year),
+        page::panel(&gas_year, Rules::of_archive(archive)),
         suppliers::suppliers(&gas_year),
         year_sheet::year_sheet(&gas_year, &closings.cells(archive)),
         statements::statements(&gas_year, &sums.statements(&ledger)),

@@ -7,7 +7,7 @@ use super::html::violation_days;
 use super::lanes;
 use super::reported::named;
 use super::scale::{stretches, Scale, Stretch, FOOT, WIDTH};
-use super::signs::SIGNS;
+use super::signs::{self, Sign};
 use crate::calendar::month_starts;
 use crate::shown::gas;
 use nedrulov::MONTHS;
@@ -119,18 +119,18 @@ fn marks(scale: &Scale, course: &Course, size: f64) -> String {
     let mut all = String::new();
     for day in &course.days {
         let (x, y) = scale.point(day);
-        for sign in SIGNS {
-            let Some(moved) = sign.moved(&day.report) else {
+        for sign in signs::ALL {
+            let Some(moved) = sign.moved(day) else {
                 continue;
             };
-            let what = match moved {
-                0 => named(day.report.mask),
+            let what = match sign {
+                Sign::Violation => named(day.report.mask),
                 _ => format!("{} {} Dth", sign.name(), gas(moved)),
             };
             all += &format!(
                 "<path class=\"sign {}\" d=\"{}\"><title>{}: {what}</title></path>\n",
                 sign.class(),
-                sign.shape(x, y + sign.drop(&day.report), size),
+                sign.shape(x, y + sign.drop(day), size),
                 day.date
             );
         }

@@ -3,7 +3,7 @@
 
 use super::gas_year::{BankDay, Course};
 use super::scale::{Scale, FLAG_ROW, WIDTH};
-use super::signs::{Sign, SIGNS};
+use super::signs::{Sign, REPORTED};
 use crate::shown::gas;
 use crate::words::violation_list;
 
@@ -67,7 +67,7 @@ fn violation_names(mask: u64) -> String {
 
 /// The flags of a chart; none at all where they need too many rows or the last would run out of the drawing.
 pub fn flags(course: &Course, scale: &Scale) -> Option<Vec<Flag>> {
-    let signs = SIGNS.iter();
+    let signs = REPORTED.iter();
     let mut groups: Vec<Group> = signs.flat_map(|sign| groups(*sign, course)).collect();
     groups.sort_by_key(|group| group.first);
     let rows = rows(&groups, |offset| scale.mid(offset));
@@ -80,7 +80,7 @@ pub fn flags(course: &Course, scale: &Scale) -> Option<Vec<Flag>> {
 fn groups(sign: Sign, course: &Course) -> Vec<Group> {
     let mut groups: Vec<Group> = Vec::new();
     for day in &course.days {
-        let Some(moved) = sign.moved(&day.report) else {
+        let Some(moved) = sign.moved(day) else {
             continue;
         };
         match groups.last_mut().filter(|group| group.goes_on_with(day)) {
@@ -131,10 +131,7 @@ pub fn poles(scale: &Scale, course: &Course, flags: &[Flag]) -> String {
             continue;
         };
         let (x, y) = scale.point(day);
-        let (from, to) = (
-            baseline(scale, flag) - 10.0,
-            y + flag.group.sign.drop(&day.report),
-        );
+        let (from, to) = (baseline(scale, flag) - 10.0, y + flag.group.sign.drop(day));
         all += &format!("<path class=\"pole\" d=\"M{x:.1} {from:.1}V{to:.1}\"/>\n");
     }
     all
@@ -207,6 +204,7 @@ mod tests {
                 bank: 0,
                 bcq: 1,
                 report,
+                confiscated: None,
             };
             Course {
                 account: 0,

@@ -15,6 +15,8 @@ pub struct BankDay {
     /// In Dth, as the closing found it.
     pub bcq: u64,
     pub report: Report,
+    /// What an entry of the day told as confiscated, in units.
+    pub confiscated: Option<u64>,
 }
 
 impl BankDay {
@@ -46,6 +48,10 @@ impl Course {
     pub fn violation_days(&self) -> u64 {
         let days = self.days.iter();
         days.filter(|day| day.is_violation_day()).count() as u64
+    }
+
+    pub fn has_confiscations(&self) -> bool {
+        self.days.iter().any(|day| day.confiscated.is_some())
     }
 }
 
@@ -132,6 +138,7 @@ impl GasYear {
                     bank: step.after.accounts[account].bank,
                     bcq: found.capacity.bcq,
                     report: step.answer.reports[account],
+                    confiscated: found.today.confiscated.then_some(found.today.confiscation),
                 });
             }
         }

@@ -3,7 +3,7 @@
 
 use super::gas_year::{BankDay, Course};
 use super::scale::{Scale, FOOT, LEFT, NAMES, RIGHT};
-use super::signs::{Sign, SIGNS};
+use super::signs::{Sign, REPORTED};
 use crate::words::violation_list;
 
 const LANE: f64 = 17.0;
@@ -27,11 +27,11 @@ pub fn lanes(course: &Course) -> Vec<Lane> {
             runs,
         }
     });
-    let moves = SIGNS
+    let moves = REPORTED
         .into_iter()
         .filter(|sign| *sign != Sign::Violation)
         .map(|sign| {
-            let runs = runs(course, |day| sign.moved(&day.report).is_some());
+            let runs = runs(course, |day| sign.moved(day).is_some());
             Lane {
                 name: sign.name().to_string(),
                 class: sign.class(),

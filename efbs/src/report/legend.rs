@@ -1,11 +1,16 @@
 //! How to read a chart.
 
+use super::gas_year::{Course, GasYear};
 use super::html::escape;
-use super::signs::{Sign, SIGNS};
+use super::signs::{Sign, REPORTED};
 use crate::words::violation;
 
-pub fn legend() -> String {
-    let sign = |sign: &Sign| {
+pub fn legend(year: &GasYear) -> String {
+    let confiscated = year.courses().any(Course::has_confiscations);
+    let signs = REPORTED
+        .into_iter()
+        .chain(confiscated.then_some(Sign::Confiscated));
+    let sign = |sign: Sign| {
         key(
             sign.name(),
             &format!(
@@ -27,7 +32,7 @@ pub fn legend() -> String {
             "<path class=\"band\" d=\"M1 1H33V15H1Z\"/><path class=\"edge maximum\" d=\"M1 1H33\"/>\
              <path class=\"edge minimum\" d=\"M1 15H33\"/>"
         ),
-        SIGNS.iter().map(sign).collect::<String>()
+        signs.map(sign).collect::<String>()
     )
 }
 

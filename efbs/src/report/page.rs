@@ -4,6 +4,7 @@ use super::gas_year::{GasYear, Last};
 use super::html::escape;
 use crate::calendar::year_after;
 use crate::entry::Day;
+use crate::rules::Rules;
 use crate::shown::{gas, whole};
 use crate::words::month_name;
 
@@ -18,7 +19,7 @@ pub fn document(year: &str, body: &str) -> String {
 }
 
 /// The panel figure as the year's last posting left it, and what it stands on.
-pub fn panel(year: &GasYear) -> String {
+pub fn panel(year: &GasYear, rules: Rules) -> String {
     let open = year.last.as_ref().map_or(0, open_accounts);
     let counts = [
         (open, "open supplier", "open suppliers"),
@@ -39,12 +40,13 @@ pub fn panel(year: &GasYear) -> String {
     };
     format!(
         "<header>\n<p class=\"over\">Rider EFBS · bank recorder</p>\n<h1>Gas bank report, gas year <span class=\"unbroken\">{}</span></h1>\n\
-         <p>April {} to March {}</p>\n</header>\n<section class=\"panel\" aria-label=\"Panel figure\">\n\
+         <p>April {} to March {}</p>\n{}</header>\n<section class=\"panel\" aria-label=\"Panel figure\">\n\
          <div class=\"figure\"><p>Total gas in bank</p>\n{}</div>\n\
          <dl>\n{}</dl>\n</section>\n<p class=\"hint\">Charts and tables that are wider than the window can be moved sideways.</p>\n",
         year.name(),
         year.year,
         year_after(year.year),
+        rules.note().map_or(String::new(), |note| format!("<p>{note}</p>\n")),
         figure(year.last.as_ref()),
         counts.map(count).concat()
     )

@@ -1,8 +1,8 @@
-//! The days on which closings reported something of an account: violations, cash or a forfeit.
+//! The days on which closings reported something of an account, violations, cash or a forfeit, or gas was confiscated.
 
 use super::gas_year::{BankDay, Course};
 use super::html::{escape, table, Row};
-use super::signs::{Sign, SIGNS};
+use super::signs::{Sign, ALL};
 use crate::entry::Day;
 use crate::shown::gas;
 use crate::words::{numbered_violation, violation_list};
@@ -16,6 +16,7 @@ struct Run {
     mask: u64,
     /// Cash-in, cash-out and forfeit.
     moved: [Option<i64>; 3],
+    confiscated: Option<i64>,
     bank: i64,
 }
 
@@ -28,15 +29,16 @@ impl Run {
             last_offset: day.offset,
             days: 1,
             mask: day.report.mask,
-            moved: moved.map(|sign| sign.moved(&day.report)),
+            moved: moved.map(|sign| sign.moved(day)),
+            confiscated: Sign::Confiscated.moved(day),
             bank: day.bank,
         }
     }
 
     fn goes_on_with(&self, next: &Run) -> bool {
         let adjoins = next.last_offset == self.last_offset + 1;
-        let still = [self, next].iter().all(|run| run.moved == [None; 3]);
-        adjoins && still && next.mask == self.mask
+        let is_still = |run: &Run| run.moved == [None; 3] && run.confiscated.is_none();
+        adjoins && is_still(self) && is_still(next) && next.mask == self.mask
     }
 
     fn take(&mut self, next: Run) {
@@ -47,16 +49,18 @@ impl Run {
         };
     }
 
-    fn row(&self) -> Row {
+    /// With what was confiscated, where the table has a column for it.
+    fn row(&self, confiscations: bool) -> Row {
         let when = match self.days {
             1 => self.first.to_string(),
             days => format!("{} to {} ({days} days)", self.first, self.last),
         };
-        let moves = self.moved.map(|units| units.map_or("–".to_string(), gas));
+        let amount = |units: Option<i64>| units.map_or("–".to_string(), gas);
         Row::of(
             [when, named(self.mask)]
                 .into_iter()
-                .chain(moves)
+                .chain(self.moved.map(amount))
+                .chain(confiscations.then(|| amount(self.confiscated)))
                 .chain([gas(self.bank)])
                 .collect(),
         )
@@ -76,8 +80,8 @@ pub fn named(mask: u64) -> String {
 
 fn runs(course: &Course) -> Vec<Run> {
     let mut runs: Vec<Run> = Vec::new();
-    let reports = |day: &&BankDay| SIGNS.iter().any(|sign| sign.moved(&day.report).is_some());
-    for next in course.days.iter().filter(reports).map(Run::of) {
+    let told = |day: &&BankDay| ALL.iter().any(|sign| sign.moved(day).is_some());
+    for next in course.days.iter().filter(told).map(Run::of) {
         match runs.last_mut().filter(|run| run.goes_on_with(&next)) {
             Some(run) => run.take(next),
             None => runs.push(next),
@@ -93,19 +97,16 @@ pub fn table_of(course: &Course) -> String {
         return "<p class=\"quiet\">No violation day, no cash and no forfeit in this year.</p>\n"
             .to_string();
     }
-    let heads = [
-        "Closing of",
-        "Violations",
-        "Cash-in",
-        "Cash-out",
-        "Forfeit",
-        "Bank after",
-    ];
-    let rows: Vec<Row> = runs.iter().map(Run::row).collect();
-    table(
-        "reported",
-        "Reported by closings; gas in Dth",
-        &heads,
-        &rows,
-    )
+    let confiscations = course.has_confiscations();
+    let heads: Vec<&str> = ["Closing of", "Violations", "Cash-in", "Cash-out", "Forfeit"]
+        .into_iter()
+        .chain(confiscations.then_some("Confiscated"))
+        .chain(["Bank after"])
+        .collect();
+    let rows: Vec<Row> = runs.iter().map(|run| run.row(confiscations)).collect();
+    let caption = match confiscations {
+        true => "Reported by closings, and confiscated before them; gas in Dth",
+        false => "Reported by closings; gas in Dth",
+    };
+    table("reported", caption, &heads, &rows)
 }

@@ -1,7 +1,7 @@
-//! The signs that a closing leaves on a chart. Each has a shape of its own, so that colour alone tells nothing.
+//! The signs that stand on a chart for what happened on a day. Each has a shape of its own, so that colour alone tells nothing.
 
+use super::gas_year::BankDay;
 use crate::movements::{reported_movements, Cause};
-use nedrulov::Report;
 
 #[derive(Clone, Copy, Debug, PartialEq, Eq)]
 pub enum Sign {
@@ -9,15 +9,24 @@ pub enum Sign {
     CashIn,
     CashOut,
     Forfeit,
+    Confiscated,
 }
 
-pub const SIGNS: [Sign; 4] = [Sign::Violation, Sign::CashIn, Sign::CashOut, Sign::Forfeit];
+/// Of what a closing reports; these have flags or lanes, and rows in the table below.
+pub const REPORTED: [Sign; 4] = [Sign::Violation, Sign::CashIn, Sign::CashOut, Sign::Forfeit];
+pub const ALL: [Sign; 5] = [
+    Sign::Violation,
+    Sign::CashIn,
+    Sign::CashOut,
+    Sign::Forfeit,
+    Sign::Confiscated,
+];
 
 impl Sign {
     /// Why gas was moved, if it was.
     fn cause(self) -> Option<Cause> {
         match self {
-            Sign::Violation => None,
+            Sign::Violation | Sign::Confiscated => None,
             Sign::CashIn => Some(Cause::CashIn),
             Sign::CashOut => Some(Cause::CashOut),
             Sign::Forfeit => Some(Cause::Forfeit),
@@ -25,31 +34,41 @@ impl Sign {
     }
 
     pub fn name(self) -> &'static str {
-        self.cause().map_or("violation day", Cause::name)
+        match self {
+            Sign::Violation => "violation day",
+            Sign::Confiscated => "confiscated",
+            _ => self.class(),
+        }
     }
 
-    /// The name that the style sheet knows it by.
+    /// The name that the style sheet knows it by. What is confiscated has the colour of the forfeit that it limits.
     pub fn class(self) -> &'static str {
-        self.cause().map_or("violation", Cause::name)
+        match self {
+            Sign::Confiscated => Sign::Forfeit.class(),
+            _ => self.cause().map_or("violation", Cause::name),
+        }
     }
 
-    /// The size of what was moved, in units; nothing if the closing did not report it.
-    pub fn moved(self, report: &Report) -> Option<i64> {
-        let Some(cause) = self.cause() else {
-            return (report.mask != 0).then_some(0);
-        };
-        let mut moved = reported_movements(report);
-        let found = moved.find(|(reported, _)| *reported == cause);
-        found.map(|(_, units)| units.abs())
+    /// The size of what was moved or confiscated, in units; nothing if the day had none.
+    pub fn moved(self, day: &BankDay) -> Option<i64> {
+        match (self, self.cause()) {
+            (Sign::Confiscated, _) => day.confiscated.map(|units| units as i64),
+            (_, None) => day.is_violation_day().then_some(0),
+            (_, Some(cause)) => reported_movements(&day.report)
+                .find(|(reported, _)| *reported == cause)
+                .map(|(_, units)| units.abs()),
+        }
     }
 
     /// How far below its day's bank the sign stands, so that two of one day do not cover each other: gas that came in
     /// pushes from below, gas that went out from above.
-    pub fn drop(self, report: &Report) -> f64 {
+    pub fn drop(self, day: &BankDay) -> f64 {
+        let cash = day.report.cash;
         match self {
             Sign::Violation => 0.0,
-            Sign::CashIn => 12.0,
-            Sign::Forfeit if report.cash < 0 => -24.0,
+            Sign::Confiscated if cash > 0 => 24.0,
+            Sign::CashIn | Sign::Confiscated => 12.0,
+            Sign::Forfeit if cash < 0 => -24.0,
             Sign::CashOut | Sign::Forfeit => -12.0,
         }
     }
@@ -61,10 +80,19 @@ impl Sign {
             Sign::CashIn => vec![(0.0, -r), (r, r), (-r, r)],
             Sign::CashOut => vec![(-r, -r), (r, -r), (0.0, r)],
             Sign::Forfeit => vec![(-r, -r), (r, -r), (r, r), (-r, r)],
+            Sign::Confiscated => cross(r, 0.4 * r),
         };
         let corners = corners
             .iter()
             .map(|(dx, dy)| format!("{:.1} {:.1}", x + dx, y + dy));
         format!("M{}Z", corners.collect::<Vec<_>>().join("L"))
     }
+}
+
+/// From its middle to its ends, and to the edge of its arms.
+fn cross(end: f64, edge: f64) -> Vec<(f64, f64)> {
+    let right = [(edge, -edge), (end, -edge), (end, edge), (edge, edge)];
+    let lower = [(edge, end), (-edge, end)];
+    let rest = right.iter().chain(&lower).map(|(x, y)| (-x, -y));
+    right.into_iter().chain(lower).chain(rest).collect()
 }

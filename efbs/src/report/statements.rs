@@ -4,7 +4,7 @@ use super::gas_year::GasYear;
 use super::html::{escape, row, table, time, Row};
 use crate::calendar::{gas_year_name, gas_year_of};
 use crate::shown::{gas, money, whole};
-use crate::statement::{Bill, Statement};
+use crate::statement::{Bill, Confiscation, Statement};
 use crate::words::numbered_violation;
 
 pub fn statements(year: &GasYear, statements: &[Statement]) -> String {
@@ -40,7 +40,8 @@ fn one_statement(statement: &Statement) -> String {
     )
 }
 
-/// The tables of one statement: its gas, its violation days, and its bills by gas year.
+/// The tables of one statement: its gas, its violation days, its bills by gas year, and what was confiscated, if
+/// anything was.
 fn tables(statement: &Statement) -> String {
     let mut all = gas_terms(statement) + &days_by_kind(statement);
     let mut rest = statement.bills.as_slice();
@@ -62,7 +63,7 @@ fn tables(statement: &Statement) -> String {
             &owed(statement),
         );
     }
-    all
+    all + &forfeits(statement)
 }
 
 fn gas_terms(of: &Statement) -> String {
@@ -71,6 +72,22 @@ fn gas_terms(of: &Statement) -> String {
     rows.push(line("Sum", of.sum()).into_sum());
     rows.push(line("Bank in the ledger", of.bank).into_sum());
     table("sums", "Gas in bank", &["Term", "Dth"], &rows)
+}
+
+/// What was forfeited beside what was confiscated.
+fn forfeits(of: &Statement) -> String {
+    if of.confiscations.is_empty() {
+        return String::new();
+    }
+    let day = |day: &Confiscation| {
+        let forfeit = day.forfeit.map_or("not closed".to_string(), gas);
+        row([day.date.to_string(), gas(day.units), forfeit])
+    };
+    let mut rows: Vec<Row> = of.confiscations.iter().map(day).collect();
+    let [confiscated, forfeited] = of.confiscated_and_forfeited().map(gas);
+    rows.push(row(["Sum".to_string(), confiscated, forfeited]).into_sum());
+    let heads = ["Closing of", "Confiscated, Dth", "Forfeited, Dth"];
+    table("sums", "Forfeits", &heads, &rows)
 }
 
 fn days_by_kind(of: &Statement) -> String {

@@ -19,7 +19,7 @@ pub fn suppliers(year: &GasYear) -> String {
     format!(
         "{}<section>\n<h2>Banks day by day</h2>\n{}{charts}</section>\n",
         overview(year, last),
-        legend()
+        legend(year)
     )
 }
 
