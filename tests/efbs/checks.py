@@ -27,17 +27,27 @@ def read(path):
         return file.read()
 
 
-def statement_rows(archive):
-    """Supplier to the rows of its statement, each a name and an amount as printed."""
+def rows_of(archive, pattern):
+    """Supplier to the rows of its statement that the pattern is of, each as the pattern's groups."""
     found, supplier = {}, None
     for line in run("statement", archive)[1].decode().split("\n"):
         title = re.fullmatch(r"SUPPLIER (\d+)", line)
-        row = re.fullmatch(r"    (\S.*?)\s{2,}(-?[\d,.]+)(  agrees)?", line)
+        row = re.fullmatch(pattern, line)
         if title or line == "ALL SUPPLIERS":
             supplier = title and int(title[1])
         elif row and supplier is not None:
-            found.setdefault(supplier, []).append((row[1], row[2]))
+            found.setdefault(supplier, []).append(row.groups())
     return found
+
+
+def statement_rows(archive):
+    """Supplier to the rows of its statement, each a name and an amount as printed."""
+    return rows_of(archive, r"    (\S+(?: \S+)*) {2,}(-?[\d,.]+)(?:  agrees)?")
+
+
+def forfeit_rows(archive):
+    """Supplier to what was confiscated and forfeited as its statement has it: a day or "sum", and two amounts."""
+    return rows_of(archive, r"    (\S+) {2,}([\d,.]+) {2,}([\d,.]+|not closed)")
 
 
 class Checks:

@@ -23,25 +23,33 @@ def turned(content, bit):
 
 
 def damaged(draw):
-    """Two months of a supplier as an archive and as text, each damaged."""
-    archive = entries.archive(entries.years(date(2026, 4, 1), date(2026, 5, 31), 1, draw))
+    """Two months of a supplier as an old archive, as a new one that tells confiscations, and as text, each damaged."""
+    old = entries.years(date(2026, 4, 1), date(2026, 5, 31), 1, draw)
+    told = [(date(2026, 4, day), 0, 500) for day in range(1, 31)]
     with open("samples/gas-year.txt", "rb") as sample:
         text = sample.read(8_000)
     yield b""
-    for length in range(1, PREFIXES):
+    yield from (turned(content, draw.randrange(8 * len(content))) for content in (text, b"rules new\n" + text) for _ in range(FLIPS))
+    yield from (draw.randbytes(draw.randrange(200)) for _ in range(NOISES))
+    yield from damaged_archive(draw, entries.archive(old), PREFIXES)
+    yield from damaged_archive(draw, entries.archive(entries.with_confiscations(old, told), entries.NEW), PREFIXES // 2)
+
+
+def damaged_archive(draw, archive, prefixes):
+    for length in range(1, prefixes):
         yield archive[:length]
         yield archive[:draw.randrange(len(archive))]
-    for content in (archive, text):
-        for _ in range(FLIPS):
-            yield turned(content, draw.randrange(8 * len(content)))
+    for _ in range(FLIPS):
+        yield turned(archive, draw.randrange(8 * len(archive)))
     # In the low bytes of an entry's first word most bits leave an archive that is right, of another list.
     for _ in range(FLIPS):
         place = 24 + 32 * draw.randrange(len(archive) // 32) + 8
         yield turned(archive, 8 * place + draw.randrange(24))
     for _ in range(NOISES):
-        yield draw.randbytes(draw.randrange(200))
-        yield b"EFB1" + draw.randbytes(draw.randrange(200))
+        yield archive[:4] + draw.randbytes(draw.randrange(200))
         yield archive[:24] + draw.randbytes(32 * draw.randrange(20))
+    for byte in range(256):
+        yield archive[:3] + bytes([byte]) + archive[4:]
 
 
 def put(folder, number, content):

@@ -3,9 +3,10 @@
 import struct
 from datetime import date, timedelta
 
-TERMS, ENROL, DELIVER, TRANSFER, TRADE, MEASURE, USAGE, CLOSE_DAY, CLOSE_MONTH = range(1, 10)
+TERMS, ENROL, DELIVER, TRANSFER, TRADE, MEASURE, USAGE, CLOSE_DAY, CLOSE_MONTH, CONFISCATED = range(1, 11)
 SOME_TERMS = (120_000, 480_000, 5_000_400, 150, 12_550, 32)
 SOME_PRICES = (2_950, 3_120, 2_610, 415)
+OLD, NEW = b"EFB1", b"EFB2"
 
 
 def entry(day, kind, account=0, other=0, flags=0, words=()):
@@ -14,8 +15,8 @@ def entry(day, kind, account=0, other=0, flags=0, words=()):
     return struct.pack("<BBBBHBB6I", kind, account, other, flags, day.year, day.month, day.day, *words)
 
 
-def archive(entries):
-    """The archive of a list: a section ends after each kind 9."""
+def archive(entries, opening=OLD):
+    """The archive of a list, old or new: a section ends after each kind 9."""
     sections, section = [], []
     for raw in entries:
         section.append(raw)
@@ -29,7 +30,7 @@ def archive(entries):
     for part in sections:
         directory += struct.pack("<II", offset, len(part))
         offset += len(part)
-    return b"EFB1" + struct.pack("<HH", len(sections), 0) + directory + b"".join(sections)
+    return opening + struct.pack("<HH", len(sections), 0) + directory + b"".join(sections)
 
 
 def beginning(day=date(2026, 4, 1), mdq=4_200, opening=1_000):
@@ -75,6 +76,35 @@ def years(first, last, suppliers, draw):
     return entries
 
 
+def filled(accounts, last):
+    """From April 2026 on: each bank grows by 150 Dth a day to some 94 percent of its BCQ in January, and stays as it is."""
+    day = date(2026, 4, 1)
+    entries = [entry(day, TERMS, words=SOME_TERMS)]
+    entries += [entry(day, ENROL, account, flags=2, words=(4_200, 1_300_000)) for account in accounts]
+    while day <= last:
+        delivered = 95_228 if day < date(2027, 2, 1) else 80_000
+        entries += [entry(day, DELIVER, account, words=(delivered, 80_000)) for account in accounts]
+        if day == measurement_day(day):
+            entries += [entry(day, MEASURE, account, words=(4_200,)) for account in accounts]
+        end = closing(day)
+        if end[0] == CLOSE_MONTH:
+            entries += [entry(day, USAGE, account, words=(9,)) for account in accounts]
+        entries.append(end)
+        day += timedelta(days=1)
+    return entries
+
+
+def with_confiscations(entries, told):
+    """The list with (day, account, units) told before the closing of the day, in their order."""
+    made = []
+    for raw in entries:
+        if raw[0] in (CLOSE_DAY, CLOSE_MONTH):
+            made += [entry(day, CONFISCATED, account, words=(units,)) for day, account, units in told
+                     if entry(day, raw[0])[4:8] == raw[4:8]]
+        made.append(raw)
+    return made
+
+
 def any_day(draw):
     return date(2000, 1, 1) + timedelta(days=draw.randrange(36_525))
 
@@ -84,10 +114,10 @@ def near(draw, low, high):
     return draw.choice((low, high, draw.randint(low, high)))
 
 
-def any_entry(draw):
+def any_entry(draw, last_kind=CLOSE_MONTH):
     """An entry that is right by itself, whatever a ledger would say to it."""
     day, account, gas = any_day(draw), draw.randrange(16), 10**9
-    kind = draw.randint(TERMS, CLOSE_MONTH)
+    kind = draw.randint(TERMS, last_kind)
     if kind == TERMS:
         no_notice = near(draw, 1, 10**7)
         words = (no_notice, near(draw, no_notice, 10**8), near(draw, no_notice, 100 * no_notice), near(draw, 0, 9_999))
@@ -107,4 +137,6 @@ def any_entry(draw):
         return entry(day, kind, account, words=(near(draw, 0, 10**8),))
     if kind == CLOSE_DAY:
         return entry(day, kind)
+    if kind == CONFISCATED:
+        return entry(day, kind, account, words=(near(draw, 0, gas),))
     return entry(day, kind, words=[near(draw, 0, 10**5) for _ in range(4)])

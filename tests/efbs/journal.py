@@ -9,6 +9,7 @@ from datetime import date
 import entries
 from checks import Checks, read, run, statement_rows, write
 
+MARCH = date(2027, 3, 31)
 # A statement's line, and the account of the journal that must hold the same, with the sign that it has there.
 TERMS = {
     "opening": ("openings:NN", -1),
@@ -76,7 +77,9 @@ def main():
     folder, sample, checks = sys.argv[1], sys.argv[2], Checks("journal")
     made = entries.years(date(2026, 4, 1), date(2027, 12, 31), 16, random.Random(5))
     many = write(f"{folder}/many.efb", entries.archive(made))
-    for archive, suppliers in ((sample, 4), (many, 16)):
+    filled = entries.with_confiscations(entries.filled((0, 7), MARCH), [(MARCH, 0, 123_456), (MARCH, 7, 10**9)])
+    new = write(f"{folder}/new.efb", entries.archive(filled, entries.NEW))
+    for archive, suppliers in ((sample, 4), (many, 16), (new, 2)):
         journal = write(f"{archive}.journal", run("journal", archive)[1])
         terms = statement_terms(archive)
         checks.that(len(terms) == suppliers * len(TERMS), f"the statement of {archive} has every term of {suppliers} suppliers")

@@ -7,8 +7,9 @@ from datetime import date, timedelta
 from html.parser import HTMLParser
 
 import entries
-from checks import Checks, run, statement_rows, write
+from checks import Checks, forfeit_rows, run, statement_rows, write
 
+JANUARY, MARCH = date(2027, 1, 31), date(2027, 3, 31)
 NEVER_CLOSED = {"meta"}
 # What would fetch something from outside the page.
 REFERENCES = {"src", "srcset", "data", "action", "background", "poster", "xlink:href"}
@@ -114,9 +115,15 @@ def compare(checks, name, archive, year):
     panel = run("panel", archive)[1].split()
     checks.that(hundredths(page.figure) == int(panel[2]), f"{name}: the panel figure, {page.figure}")
     statements = statement_rows(archive)
+    forfeits = forfeit_rows(archive)
     for account, rows in statements.items():
-        shown = page_rows(page.tables.get(f"article:Account {account}", [[], []]))
+        tables = page.tables.get(f"article:Account {account}", [[], []])
+        # What was confiscated and forfeited is the one table with two amounts in a row.
+        wide = [tuple(row) for table in tables for row in table[1:] if len(row) == 3]
+        shown = page_rows([table for table in tables if not table or len(table[0]) == 2])
         checks.that(shown == rows, f"{name}: account {account}'s statement, {set(shown) ^ set(rows)}")
+        due = [(OTHER_NAMES.get(row[0], row[0]), *row[1:]) for row in wide]
+        checks.that(due == forfeits.get(account, []), f"{name}: account {account}'s forfeits, {due}")
     told = violations_in_log(archive)
     for account in statements:
         titles = page.titles.get(f"account-{account}:Account {account}", [])
@@ -174,6 +181,9 @@ def main():
     made = entries.years(date(2026, 4, 1), date(2027, 3, 31), 16, random.Random(16))
     days = compare(checks, "sixteen suppliers", write(f"{folder}/sixteen.efb", entries.archive(made)), 2026)
     checks.that(days > 1_000, f"many violation days: {days}")
+    told = [(day, account, 10**digits) for digits, day in ((5, JANUARY), (9, MARCH)) for account in (0, 3, 15)]
+    made = entries.archive(entries.with_confiscations(made, told), entries.NEW)
+    compare(checks, "sixteen suppliers under new rules", write(f"{folder}/new-sixteen.efb", made), 2026)
     checks.end()
 
 

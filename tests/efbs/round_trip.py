@@ -39,14 +39,15 @@ def sample(checks, folder):
     checks.that(read(packed) == stored, "the sample's bytes")
     checks.that(run("unpack", packed, "-o", unpacked)[0] == 0, "the sample unpacks")
     lines = [line for line in read("samples/gas-year.txt").split(b"\n") if line and not line.startswith(b"#")]
-    checks.that([line for line in read(unpacked).split(b"\n") if line] == lines, "the sample's lines")
+    checks.that([line for line in read(unpacked).split(b"\n") if line] == [b"rules old", *lines], "the sample's lines")
 
 
 def documented(checks, folder):
     """The examples in docs/TEXT-FORMAT.md: a line of each kind, written as unpack writes it."""
     text, packed = f"{folder}/documented.txt", f"{folder}/documented.efb"
-    lines = re.findall(r"(?m)^    (\d{4}-\d\d-\d\d .*)$", read("docs/TEXT-FORMAT.md").decode())
-    checks.that(len({line.split()[1] for line in lines}) == 9, "an example of each kind")
+    lines = re.findall(r"(?m)^    (rules new|\d{4}-\d\d-\d\d .*)$", read("docs/TEXT-FORMAT.md").decode())
+    checks.that(lines[0] == "rules new", "an example of the rules, before those of the kinds")
+    checks.that(len({line.split()[1] for line in lines[1:]}) == 10, "an example of each kind")
     write(text, "\n".join(lines).encode())
     checks.that(run("pack", text, "-o", packed)[0] == 0, "the examples pack")
     unpacked = run("unpack", packed)[1].decode().split("\n")
@@ -62,6 +63,9 @@ def main():
     for number in range(LISTS):
         made = [entries.any_entry(draw) for _ in range(draw.randrange(60))]
         same_bytes(checks, f"list {number}", entries.archive(made), folder)
+    for number in range(LISTS):
+        made = [entries.any_entry(draw, entries.CONFISCATED) for _ in range(draw.randrange(60))]
+        same_bytes(checks, f"new list {number}", entries.archive(made, entries.NEW), folder)
     checks.end()
 
 

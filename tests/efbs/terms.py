@@ -22,7 +22,7 @@ def entries(text):
     """Kind, words and values of each line that is an entry."""
     for line in text.split("\n"):
         words = line.split("#")[0].split()
-        if words:
+        if words and words[0] != "rules":
             values = dict(word.split("=") for word in words[2:] if "=" in word)
             yield words[1], [word for word in words[2:] if "=" not in word], values
 
