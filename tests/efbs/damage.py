@@ -9,10 +9,13 @@ from datetime import date
 import entries
 from checks import Checks, run, write
 
-COMMANDS = (
-    ["panel", "FILE"], ["unpack", "FILE"], ["log", "FILE"], ["log", "FILE", "--account", "0", "--refused"], ["statement", "FILE"],
-    ["journal", "FILE"], ["sheet", "FILE", "2026"], ["report", "FILE", "2026"], ["pack", "FILE", "-o", "-"],
+READERS = (
+    ["panel", "FILE"], ["unpack", "FILE"], ["log", "FILE"], ["statement", "FILE"], ["journal", "FILE"], ["sheet", "FILE", "2026"],
+    ["report", "FILE", "2026"],
 )
+# These answer in their own way: the damage may have taken the account's enrolment, and a text is no archive.
+OTHERS = (["log", "FILE", "--account", "0", "--refused"], ["pack", "FILE", "-o", "-"])
+COMMANDS = READERS + OTHERS
 PREFIXES, FLIPS, NOISES = 200, 150, 50
 
 
@@ -24,15 +27,20 @@ def turned(content, bit):
 
 def damaged(draw):
     """Two months of a supplier as an old archive, as a new one that tells confiscations, and as text, each damaged."""
-    old = entries.years(date(2026, 4, 1), date(2026, 5, 31), 1, draw)
-    told = [(date(2026, 4, day), 0, 500) for day in range(1, 31)]
+    old, new = lists(draw)
     with open("samples/gas-year.txt", "rb") as sample:
         text = sample.read(8_000)
     yield b""
     yield from (turned(content, draw.randrange(8 * len(content))) for content in (text, b"rules new\n" + text) for _ in range(FLIPS))
     yield from (draw.randbytes(draw.randrange(200)) for _ in range(NOISES))
     yield from damaged_archive(draw, entries.archive(old), PREFIXES)
-    yield from damaged_archive(draw, entries.archive(entries.with_confiscations(old, told), entries.NEW), PREFIXES // 2)
+    yield from damaged_archive(draw, entries.archive(new, entries.NEW), PREFIXES // 2)
+
+
+def lists(draw):
+    old = entries.years(date(2026, 4, 1), date(2026, 5, 31), 1, draw)
+    told = [(date(2026, 4, day), 0, 500) for day in range(1, 31)]
+    return old, entries.with_confiscations(old, told)
 
 
 def damaged_archive(draw, archive, prefixes):
@@ -48,8 +56,19 @@ def damaged_archive(draw, archive, prefixes):
     for _ in range(NOISES):
         yield archive[:4] + draw.randbytes(draw.randrange(200))
         yield archive[:24] + draw.randbytes(32 * draw.randrange(20))
-    for byte in range(256):
-        yield archive[:3] + bytes([byte]) + archive[4:]
+    yield b"EFB0" + archive[4:]
+    yield b"EFB3" + archive[4:]
+
+
+def fourth_bytes(checks, folder):
+    """49 begins an old archive, 50 a new one, every other byte none; an old one has no entries of the new kind."""
+    old, new = lists(random.Random(50))
+    first = next(index for index, raw in enumerate(new) if raw[0] == entries.CONFISCATED)
+    for made, taken in ((old, {49: "", 50: ""}), (new, {49: f"archive 2 {first}", 50: ""})):
+        for byte in range(256):
+            out = run("panel", write(f"{folder}/fourth", entries.archive(made, b"EFB" + bytes([byte]))))[1].decode()
+            due = taken.get(byte, "archive 8 0") or f"{len(old)} {len(made) - len(old)} "
+            checks.that(out.startswith(due), f"the line of the fourth byte {byte}: {out}")
 
 
 def put(folder, number, content):
@@ -66,10 +85,11 @@ def main():
     with ThreadPoolExecutor(os.cpu_count()) as pool:
         results = list(pool.map(lambda pair: put(folder, *pair), enumerate(damaged(draw))))
     for number, statuses in enumerate(results):
-        readers = set(statuses[:-1])
-        checks.that(len(readers) == 1 and readers <= {0, 1}, f"file {number}: every reader answers alike, not {statuses}")
+        readers = set(statuses[:len(READERS)])
+        checks.that(len(readers) == 1 and set(statuses) <= {0, 1}, f"file {number}: every reader answers alike, not {statuses}")
         for status in statuses:
             seen[status] = seen.get(status, 0) + 1
+    fourth_bytes(checks, folder)
     for path in (folder, f"{folder}/missing"):
         for command in COMMANDS:
             checks.that(run(*(word.replace("FILE", path) for word in command))[0] == 1, f"{command[0]} of {path} fails")

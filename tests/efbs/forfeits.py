@@ -133,16 +133,6 @@ def notes(checks, new, old):
         checks.that(NOTE not in run(command[0], new, *command[1:])[1].decode(), f"{command} stays as it is")
 
 
-def openings(checks, folder, list_):
-    """The fourth byte decides: 49 old, 50 new, others no archive; an old one has no such kind."""
-    first = next(index for index, raw in enumerate(list_) if raw[0] == entries.CONFISCATED)
-    for byte, line in ((48, "archive 8 0"), (49, f"archive 2 {first}"), (51, "archive 8 0"), (178, "archive 8 0")):
-        path = write(f"{folder}/opening.efb", entries.archive(list_, b"EFB" + bytes([byte])))
-        status, out, told = run("panel", path)
-        checks.that((status, out.decode()) == (1, f"{line}\n"), f"fourth byte {byte}: {out}")
-        checks.that((b"EFB1 or EFB2" in told) == (byte not in (49, 50)), f"fourth byte {byte}: {told}")
-
-
 def main():
     folder, checks = sys.argv[1], Checks("forfeits")
     plain = entries.filled(ACCOUNTS, MARCH)
@@ -162,7 +152,6 @@ def main():
     in_report(checks, new, expected)
     unclosed(checks, folder, list_, expected)
     notes(checks, new, old)
-    openings(checks, folder, list_)
     # A new archive with nothing told forfeits nothing.
     untold = write(f"{folder}/untold.efb", entries.archive(plain, entries.NEW))
     checks.that("forfeit " not in run("log", untold)[1].decode().replace(NOTE, ""), "nothing told, nothing forfeited")
