@@ -25,6 +25,15 @@ fn steps_join() {
 }
 
 #[test]
+fn a_new_archive_replays_to_a_new_ledger() {
+    let mut archive = sample();
+    archive[3] = b'2';
+    let ended = replay(&archive, |step| assert!(step.before.is_new));
+    assert!(ended.is_ok_and(|ledger| ledger.is_new));
+    assert!(replay(&sample(), |_| ()).is_ok_and(|ledger| !ledger.is_new));
+}
+
+#[test]
 fn breaking_off() {
     let mut seen = 0;
     let ended = replay_while(&sample(), |step| {

@@ -61,12 +61,12 @@ impl Sign {
     }
 
     /// How far below its day's bank the sign stands, so that two of one day do not cover each other: gas that came in
-    /// pushes from below, gas that went out from above.
+    /// pushes from below, gas that went out from above. What was confiscated takes the place that cash leaves.
     pub fn drop(self, day: &BankDay) -> f64 {
         let cash = day.report.cash;
         match self {
             Sign::Violation => 0.0,
-            Sign::Confiscated if cash > 0 => 24.0,
+            Sign::Confiscated if cash > 0 => -24.0,
             Sign::CashIn | Sign::Confiscated => 12.0,
             Sign::Forfeit if cash < 0 => -24.0,
             Sign::CashOut | Sign::Forfeit => -12.0,
@@ -95,4 +95,42 @@ fn cross(end: f64, edge: f64) -> Vec<(f64, f64)> {
     let lower = [(edge, end), (-edge, end)];
     let rest = right.iter().chain(&lower).map(|(x, y)| (-x, -y));
     right.into_iter().chain(lower).chain(rest).collect()
+}
+
+#[cfg(test)]
+mod tests {
+    use super::*;
+    use crate::entry::Day;
+    use nedrulov::Report;
+
+    #[test]
+    fn no_two_signs_of_a_day_stand_in_one_place() {
+        for cash in [-1, 0, 1] {
+            let day = BankDay {
+                date: Day {
+                    year: 2027,
+                    month: 1,
+                    day: 31,
+                },
+                offset: 305,
+                bank: 0,
+                bcq: 1,
+                report: Report {
+                    mask: 1,
+                    cash,
+                    forfeit: 1,
+                    bill: 0,
+                },
+                confiscated: Some(0),
+            };
+            let stands = ALL.into_iter().filter(|sign| sign.moved(&day).is_some());
+            let mut drops: Vec<i64> = stands.map(|sign| sign.drop(&day) as i64).collect();
+            drops.sort();
+            assert!(
+                drops.windows(2).all(|two| two[1] - two[0] >= 12),
+                "{drops:?}"
+            );
+            assert_eq!(drops.len() as i64, 3 + cash.abs());
+        }
+    }
 }

@@ -2,7 +2,7 @@
 
 use crate::common::sample;
 use efbs::archive::of_list;
-use efbs::entry::Kind;
+use efbs::entry::{Entry, Kind};
 use efbs::replay::{replay, Step};
 use efbs::report::report;
 use efbs::rules::Rules;
@@ -32,6 +32,32 @@ pub fn crowded() -> Vec<u8> {
     of_list(Rules::Old, &list).expect("the list fits")
 }
 
+/// The sample under new rules: of account 0 less is confiscated than the excess of March, of 1 nothing, and of 3 some in
+/// January, on a day that overdraws its bank.
+pub fn confiscated() -> Vec<u8> {
+    let mut list = Vec::new();
+    replayed(&sample(), |step| {
+        let mut entry = step.entry;
+        let told: &[(u8, u32)] = match (entry.kind, entry.date.month, entry.a) {
+            (Kind::CloseMonth, 1, _) => &[(3, 2_000)],
+            (Kind::CloseMonth, 3, _) => &[(0, 100_000), (1, 0)],
+            (Kind::Deliver, 1, 3) if entry.date.day == 31 => {
+                entry.words[1] += 2_000_000;
+                &[]
+            }
+            _ => &[],
+        };
+        for (account, units) in told {
+            let mut confiscation = Entry::blank(Kind::Confiscated, entry.date);
+            confiscation.a = *account;
+            confiscation.words[0] = *units;
+            list.extend(confiscation.to_bytes());
+        }
+        list.extend(entry.to_bytes());
+    });
+    of_list(Rules::New, &list).expect("the list fits")
+}
+
 /// The sample up to and with its closing of a day.
 pub fn sample_until(last: &str) -> Vec<u8> {
     let last = last.parse().expect("a date");
@@ -56,5 +82,6 @@ pub fn pages() -> Vec<String> {
         page(&sample_until("2026-04-01"), SAMPLE_YEAR),
         page(EMPTY, SAMPLE_YEAR),
         page(&crowded(), SAMPLE_YEAR),
+        page(&confiscated(), SAMPLE_YEAR),
     ]
 }

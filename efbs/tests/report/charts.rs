@@ -1,6 +1,6 @@
 //! Line, band and signs lie where the ledger has them.
 
-use crate::archives::{crowded, page, pages, replayed, sample_until, SAMPLE_YEAR};
+use crate::archives::{confiscated, crowded, page, pages, replayed, sample_until, SAMPLE_YEAR};
 use crate::common::sample;
 use crate::reading::{charts, drawing, height_at, number, on_axis, paths, plot, points, Path};
 use efbs::words::{numbered_violation, violation_list};
@@ -135,6 +135,41 @@ fn cash_and_forfeits_are_marked() {
     assert!(charts[0].contains("<title>2027-03-31: forfeit 1,442.33 Dth</title>"));
     assert!(charts[3].contains("<title>2026-04-07: cash-in 275.05 Dth</title>"));
     assert!(charts[3].contains("<title>2026-11-04: cash-out 1,387.57 Dth</title>"));
+}
+
+#[test]
+fn confiscations_are_marked_and_listed_beside_forfeits() {
+    let page = page(&confiscated(), SAMPLE_YEAR);
+    let charts = charts(&page);
+    for (account, marks) in [
+        (
+            0,
+            &["03-31: forfeit 1,000.00", "03-31: confiscated 1,000.00"][..],
+        ),
+        (1, &["03-31: confiscated 0.00"]),
+        (2, &[]),
+        (3, &["01-31: cash-in 23,698.75", "01-31: confiscated 20.00"]),
+    ] {
+        for mark in marks {
+            let title = format!("<title>2027-{mark} Dth</title>");
+            assert_eq!(charts[account].matches(&title).count(), 1, "{title}");
+        }
+        let told = marks.iter().any(|mark| mark.contains("confiscated"));
+        assert_eq!(
+            charts[account].contains("<th scope=\"col\">Confiscated</th>"),
+            told
+        );
+    }
+    assert_eq!(
+        page.matches("</svg> confiscated</li>").count(),
+        1,
+        "the legend"
+    );
+    for other in [sample(), crowded()] {
+        assert!(!crate::archives::page(&other, SAMPLE_YEAR)
+            .to_lowercase()
+            .contains("confiscated"));
+    }
 }
 
 /// What must lie in the plot of a path: bank and band wholly, a sign with its middle; nothing of the others.

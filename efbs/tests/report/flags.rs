@@ -1,6 +1,6 @@
 //! What stands above and below a chart adds up to the statement.
 
-use crate::archives::{page, sample_until, SAMPLE_YEAR};
+use crate::archives::{confiscated, page, sample_until, SAMPLE_YEAR};
 use crate::common::{pack, sample};
 use crate::reading::{charts, number};
 use efbs::statement::{statements, Statement};
@@ -74,7 +74,12 @@ fn listed(chart: &str) -> Sums {
 #[test]
 fn flags_and_tables_add_up_to_the_statement() {
     let mut flags = 0;
-    for archive in [sample(), sample_until("2026-11-04"), pack(TWO_DAYS)] {
+    for archive in [
+        sample(),
+        sample_until("2026-11-04"),
+        pack(TWO_DAYS),
+        confiscated(),
+    ] {
         let page = page(&archive, SAMPLE_YEAR);
         let statements = statements(&archive, None).expect("the archive is right");
         for (chart, statement) in charts(&page).iter().zip(&statements) {
@@ -83,7 +88,7 @@ fn flags_and_tables_add_up_to_the_statement() {
             flags += chart.matches("class=\"flag\"").count();
         }
     }
-    assert_eq!(flags, 10 + 6 + 3);
+    assert_eq!(flags, 10 + 6 + 3 + 14);
 }
 
 #[test]
