@@ -165,7 +165,8 @@ fn unpackable(path: &Path, fault: text::Fault) -> Failure {
         text::Fault::Entry { number: 11, .. } => "Begin another archive.",
         // The text format knows no kind that new rules do not.
         text::Fault::Entry { number: 2, .. } => {
-            "It is a kind of the new rules: the text would have to begin with the line rules new; efbs help rules tells of both."
+            "It is a kind of the new rules: the text would have to begin with the line rules new; \
+             efbs help rules tells of both."
         }
         _ => "Mend the line; docs/TEXT-FORMAT.md has the kinds and their ranges.",
     };
