@@ -31,7 +31,8 @@ def damaged(draw):
     with open("samples/gas-year.txt", "rb") as sample:
         text = sample.read(8_000)
     yield b""
-    yield from (turned(content, draw.randrange(8 * len(content))) for content in (text, b"rules new\n" + text) for _ in range(FLIPS))
+    for content in FLIPS * (text, b"rules new\n" + text):
+        yield turned(content, draw.randrange(8 * len(content)))
     yield from (draw.randbytes(draw.randrange(200)) for _ in range(NOISES))
     yield from damaged_archive(draw, entries.archive(old), PREFIXES)
     yield from damaged_archive(draw, entries.archive(new, entries.NEW), PREFIXES // 2)

@@ -6,7 +6,7 @@ import sys
 from datetime import date
 
 import entries
-from checks import Checks, forfeit_rows, read, run, write
+from checks import Checks, forfeit_rows, read, run, statement_rows, write
 
 JANUARY, MARCH = date(2027, 1, 31), date(2027, 3, 31)
 # Neither is a day for it, and both are posted for every account.
@@ -93,9 +93,12 @@ def in_log(checks, log, expected):
 def in_statement(checks, archive, expected):
     status, out, _ = run("statement", archive)
     checks.that(status == 0 and out.count(b"agrees\n") == 3 * len(ACCOUNTS) + 1, "every sum agrees")
-    rows = forfeit_rows(archive)
+    rows, terms = forfeit_rows(archive), statement_rows(archive)
     for account in ACCOUNTS:
         checks.that(rows.get(account, []) == expected.rows(account), f"account {account}'s forfeits: {rows.get(account)}")
+        term = whole(dict(terms[account])["forfeits"])
+        due = -sum(units for (_, of), units in expected.forfeits.items() if of == account)
+        checks.that(term == due, f"account {account}'s term: {term}, due {due}")
 
 
 def in_report(checks, archive, expected):

@@ -1,4 +1,5 @@
-//! The signs that stand on a chart for what happened on a day. Each has a shape of its own, so that colour alone tells nothing.
+//! The signs that stand on a chart for what happened on a day. Each has a shape of its own, so that colour alone tells
+//! nothing.
 
 use super::gas_year::BankDay;
 use crate::movements::{reported_movements, Cause};
@@ -12,7 +13,7 @@ pub enum Sign {
     Confiscated,
 }
 
-/// Of what a closing reports; these have flags or lanes, and rows in the table below.
+/// Of what a closing reports: these have flags or lanes. What is confiscated moves nothing and has none.
 pub const REPORTED: [Sign; 4] = [Sign::Violation, Sign::CashIn, Sign::CashOut, Sign::Forfeit];
 pub const ALL: [Sign; 5] = [
     Sign::Violation,
