@@ -19,6 +19,10 @@ impl Numbers {
         self.0 ^= self.0 << 17;
         self.0
     }
+
+    fn coin(&mut self) -> bool {
+        self.next().is_multiple_of(2)
+    }
 }
 
 /// Posts to both doors; the lent ledger must be the returned one, and the answers the same.
@@ -76,13 +80,13 @@ fn hostile_ledgers() {
     let mut numbers = Numbers(7);
     let terms = &list()[..ENTRY_BYTES];
     for _ in 0..2_000 {
-        let mut ledger = fresh(numbers.next() % 2 == 0);
-        ledger.begun = numbers.next() % 2 == 0;
-        ledger.touched = numbers.next() % 2 == 0;
+        let mut ledger = fresh(numbers.coin());
+        ledger.begun = numbers.coin();
+        ledger.touched = numbers.coin();
         ledger.date = Date { year: numbers.next(), month: numbers.next() % 14, day: numbers.next() % 33 };
         let account = &mut ledger.accounts[numbers.next() as usize % ACCOUNTS];
-        account.opened = numbers.next() % 2 == 0;
-        account.today.confiscated = numbers.next() % 2 == 0;
+        account.opened = numbers.coin();
+        account.today.confiscated = numbers.coin();
         account.today.confiscation = numbers.next() >> (numbers.next() % 64);
         account.bank = numbers.next() as i64 >> (numbers.next() % 64);
         account.owed = numbers.next() as i64 >> (numbers.next() % 64);
