@@ -1,6 +1,6 @@
 -- The fourth byte is all that tells an old archive from a new one, and the reader judges each entry by it.
 use Prim.Native.Nat.{ℕ}
-use mathlib.Core.Path.{_≡_, refl, sym, ap, _∙_}
+use mathlib.Core.Path.{_≡_, sym, ap, _∙_}
 use mathlib.Core.Bool.{Bool, true, false, cond, false≢true}
 use mathlib.Core.List.{List}
 use lib.Dec.{eqb}
@@ -8,7 +8,7 @@ use lib.ListN.{getD}
 use Rattle.ledger.proofs.OldKinds.{old-form}
 use Rattle.archive.specs.Entries.{entriesOf}
 use Rattle.archive.specs.Layout.{archiveOf, sectionsOf}
-use Rattle.archive.specs.Reading.{isNew, checked, numberIn}
+use Rattle.archive.specs.Reading.{isNew, numberIn}
 use Rattle.archive.specs.RoundTrips.{FourthByteTells, OldIsNotNew, OldKindsOnly}
 use Rattle.archive.proofs.Acceptance.{checked-tells}
 use Rattle.archive.proofs.Headers.{header-checked, opened}

@@ -1,13 +1,13 @@
 -- Old or new is asked in two places only, for the kinds that there are and for the forfeit: every other rule makes the same of both.
 use Prim.Native.Nat.{ℕ}
-use mathlib.Core.Path.{_≡_, refl, sym, ap, ap₂, _∙_}
+use mathlib.Core.Path.{_≡_, refl, sym, ap, _∙_}
 use mathlib.Core.Bool.{Bool, true, false, cond, not, _&&_}
 use mathlib.Core.List.{List, [], _∷_, _++_, map}
 use lib.Dec.{eqb, leb}
 use lib.ListN.{length}
 use borrow.Author.Tests.{ne-eqb}
 use Rattle.tariff.specs.Dates.{lastOfMonth, onMeasurementDay}
-use Rattle.ledger.specs.Structs.{Account, Change, Closed, Entry, Kind, Ledger, Posted, Report, Terms}
+use Rattle.ledger.specs.Structs.{Account, Change, Entry, Kind, Ledger, Posted, Terms}
 use Rattle.ledger.specs.Checks.{Check, verdict}
 use Rattle.ledger.specs.Kinds.{kindOf, lookup, version}
 use Rattle.ledger.specs.Entries.{entryOf}

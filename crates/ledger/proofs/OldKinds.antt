@@ -1,20 +1,20 @@
 -- The table has a later version for every kind that the old rules do not name, so an old ledger and an old list find none there.
-use Prim.Native.Nat.{ℕ, _<_, _≤_}
+use Prim.Native.Nat.{ℕ, _≤_}
 use mathlib.Core.Path.{_≡_, refl, sym, _∙_}
-use mathlib.Core.Bool.{Bool, true, false, not, _&&_, true≢false}
-use mathlib.Core.List.{List, _++_}
+use mathlib.Core.Bool.{true, false, not, true≢false}
+use mathlib.Core.List.{List}
 use native.Mathlib.Omega.{arith}
 use lib.Dec.{leb}
 use lib.ListN.{length}
 use borrow.Author.Tests.{eq-eqb, le-leb}
 use Rattle.ledger.specs.Checks.{verdict}
-use Rattle.ledger.specs.Kinds.{kindOf, lookup}
+use Rattle.ledger.specs.Kinds.{kindOf}
 use Rattle.ledger.specs.Entries.{entryOf}
 use Rattle.ledger.specs.Forms.{entryChecks, entryNumber, formNumber}
 use Rattle.ledger.specs.OldAndNew.{isOldKind}
-use Rattle.ledger.specs.Posting.{admission, postEntry, posted, standingChecks}
+use Rattle.ledger.specs.Posting.{admission, postEntry, posted}
 use Rattle.ledger.specs.Answers.{refused}
-use Rattle.ledger.specs.Structs.{Entry, Kind, Ledger}
+use Rattle.ledger.specs.Structs.{Kind, Ledger}
 use Rattle.ledger.proofs.KindCases.{done, each, _then_}
 
 within : (kind : ℕ) → 1 ≤ kind → kind ≤ 9 → isOldKind kind ≡ true

@@ -1,20 +1,19 @@
 -- No rule but CONFISCATED's writes to what is told of confiscated gas, closings and ENROL clear it, and no rule at all writes to what says old or new.
 use Prim.Native.Nat.{ℕ, zero, suc, min}
-use mathlib.Core.Path.{_≡_, refl, sym, ap, _∙_}
-use mathlib.Core.Bool.{Bool, true, false, cond, true≢false, false≢true}
-use mathlib.Core.List.{List, [], _∷_, map}
+use mathlib.Core.Path.{_≡_, refl, ap, _∙_}
+use mathlib.Core.Bool.{Bool, true, false, cond}
+use mathlib.Core.List.{List, [], _∷_}
 use native.Mathlib.Omega.{arith}
-use lib.Dec.{eqb, leb}
-use lib.ListN.{length, getD, set, List·getD-map}
+use lib.Dec.{eqb}
+use lib.ListN.{length, getD, set}
 use borrow.Author.Tests.{eq-eqb, eqb-false, eqb-true, ne-eqb}
 use Rattle.tariff.specs.Closing.{forfeitUnder}
-use Rattle.tariff.specs.Terms.{capacityOf}
 use Rattle.tariff.proofs.Bools.{either}
 use Rattle.ledger.specs.Structs.{Account, Change, Closed, Entry, Ledger, Posted, Report, Terms, Today}
 use Rattle.ledger.specs.Checks.{verdict}
 use Rattle.ledger.specs.Kinds.{kindOf, lookup}
 use Rattle.ledger.specs.Entries.{companySells, entryOf, pricesOf, termsOf}
-use Rattle.ledger.specs.State.{accountAt, asOpen, fresh, noToday, nobody, withAccount, withBank, withCapacity, withCarry, withDays, withExcuse, withMeasure, withMonth, withToday, withTotals}
+use Rattle.ledger.specs.State.{accountAt, asOpen, fresh, noToday, nobody, withAccount, withBank, withCapacity, withCarry, withExcuse, withMeasure, withMonth, withToday, withTotals}
 use Rattle.ledger.specs.Answers.{plain, quiet, refused, settle}
 use Rattle.ledger.specs.Terms.{postTerms, reworked, termsNext}
 use Rattle.ledger.specs.Enrol.{enrolled, enrolment, newAccount}
@@ -25,7 +24,7 @@ use Rattle.ledger.specs.Trade.{booked, trade, traded}
 use Rattle.ledger.specs.Measure.{afterMeasure, measurement, remeasured}
 use Rattle.ledger.specs.Usage.{afterUsage, metered, usage}
 use Rattle.ledger.specs.Confiscated.{confiscation}
-use Rattle.ledger.specs.Closing.{afterClosing, afterDay, afterMonth, closingOf, dayClosing, dayEnd, excessAt, forfeitAt, leftAlone, monthClosing, monthEnd, reportOf}
+use Rattle.ledger.specs.Closing.{afterClosing, afterDay, afterMonth, closingOf, dayClosing, dayEnd, forfeitAt, leftAlone, monthClosing, monthEnd, reportOf}
 use Rattle.ledger.specs.Closings.{closed, closingChecks, postClosing}
 use Rattle.ledger.specs.Posting.{admission, changeOf, postEntry, postKind, postSeveral, posted, stored}
 use Rattle.ledger.specs.Running.{run}

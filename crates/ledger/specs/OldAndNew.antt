@@ -1,6 +1,6 @@
 -- What sets old ledgers and new ones apart, and that an old one is answered as it was before there were new ones.
 use Rattle.tariff.specs.Vocabulary.{ℕ, min, Bool, false, true, cond, _&&_, leb, List, length, getD, _≡_}
-use Rattle.ledger.specs.Structs.{Account, Date, Ledger, Terms}
+use Rattle.ledger.specs.Structs.{Date, Ledger}
 use Rattle.ledger.specs.Kinds.{TERMS, CLOSE-MONTH, CONFISCATED}
 use Rattle.ledger.specs.Entries.{entryOf}
 use Rattle.ledger.specs.State.{fresh, accountAt, ledger}

@@ -1,12 +1,9 @@
 -- Fewer than four bytes are not those of a new archive, as bytes that are not there count as 0; else the first four are asked.
 use borrow.Author.Needs.{needs}
-use native.Mathlib.Omega.{arith}
-use Prim.Native.Nat.{ℕ, _<_}
-use mathlib.Core.Bool.{Bool, false, true}
-use mathlib.Core.List.{List, [], _∷_}
-use mathlib.Core.Path.{_≡_, refl}
-use lib.ListN.{length}
-use Rattle.tariff.proofs.Bools.{either}
+use Prim.Native.Nat.{ℕ}
+use mathlib.Core.Bool.{Bool, true}
+use mathlib.Core.List.{List}
+use mathlib.Core.Path.{_≡_}
 use Rattle.archive.specs.Reading.{isNew, opensAs}
 use Rattle.archive.proofs.Headers.{too-short}
 use Rattle.archive.proofs.is_new.Statement.{statement}
