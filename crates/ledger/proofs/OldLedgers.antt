@@ -7,8 +7,8 @@ use native.Mathlib.Omega.{arith}
 use lib.Dec.{eqb}
 use lib.ListN.{length, getD, set}
 use borrow.Author.Tests.{eq-eqb, eqb-false, eqb-true, ne-eqb}
-use Rattle.tariff.specs.Closing.{forfeitUnder}
 use Rattle.tariff.proofs.Bools.{either}
+use Rattle.tariff.proofs.Laws.{forfeit-value}
 use Rattle.ledger.specs.Structs.{Account, Change, Closed, Entry, Ledger, Posted, Report, Terms, Today}
 use Rattle.ledger.specs.Checks.{verdict}
 use Rattle.ledger.specs.Kinds.{kindOf, lookup}
@@ -24,7 +24,7 @@ use Rattle.ledger.specs.Trade.{booked, trade, traded}
 use Rattle.ledger.specs.Measure.{afterMeasure, measurement, remeasured}
 use Rattle.ledger.specs.Usage.{afterUsage, metered, usage}
 use Rattle.ledger.specs.Confiscated.{confiscation}
-use Rattle.ledger.specs.Closing.{afterClosing, afterDay, afterMonth, closingOf, dayClosing, dayEnd, forfeitAt, leftAlone, monthClosing, monthEnd, reportOf}
+use Rattle.ledger.specs.Closing.{afterClosing, afterDay, afterMonth, closingOf, dayClosing, dayEnd, excessAt, forfeitAt, leftAlone, monthClosing, monthEnd, reportOf}
 use Rattle.ledger.specs.Closings.{closed, closingChecks, postClosing}
 use Rattle.ledger.specs.Posting.{admission, changeOf, postEntry, postKind, postSeveral, posted, stored}
 use Rattle.ledger.specs.Running.{run}
@@ -248,8 +248,10 @@ module _ (l : Ledger) (e : Entry) (i : ℕ) (nine : e .kind ≡ 9) (o : accountA
   as-month = cc (o, ne-eqb (e .kind) 8 (λ z. omega (arith, z, nine)), eq-eqb (e .kind) 9 nine)
 
   reported-forfeit : reportOf (l .«is_new») (l .terms) e (accountAt l i) .forfeit .0 ≡ cond (l .«is_new») (min (accountAt l i .today .confiscation .0) due) due
-  unfolding reportOf monthClosing forfeitAt forfeitUnder excessIn
-  reported-forfeit = ap (λ (c : Closed). c .report .forfeit .0) as-month
+  unfolding reportOf monthClosing forfeitAt excessIn
+  reported-forfeit =
+      ap (λ (c : Closed). c .report .forfeit .0) as-month
+      ∙ forfeit-value (l .«is_new») (accountAt l i .today .confiscation) (excessAt (e .date) (l .terms) (afterDay (e .date) (accountAt l i)))
 
   closed-forfeits : Forfeits (closed l e)
   closed-forfeits _ = ap (λ (r : Report). r .forfeit .0) (account-reported l e i) ∙ reported-forfeit

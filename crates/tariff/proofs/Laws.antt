@@ -1,7 +1,7 @@
 -- The laws of the amounts that the layers above go by: what each definition makes of the numbers, so that none of them opens a definition.
-use Prim.Native.Nat.{ℕ, zero, suc, _+_, _≤_}
+use Prim.Native.Nat.{ℕ, zero, suc, _+_, _≤_, min}
 use mathlib.Core.Path.{_≡_, refl, sym}
-use mathlib.Core.Bool.{true, _&&_}
+use mathlib.Core.Bool.{Bool, true, cond, _&&_}
 use native.Mathlib.Omega.{arith}
 use lib.Dec.{leb}
 use lib.Signed.{leZ}
@@ -9,6 +9,7 @@ use borrow.Author.Tests.{le-leb}
 use lib.IntN.{ℤ, pos, negsuc, _+ℤ_, _-ℤ_, negℤ, +ℤ-idl, +ℤ-idr}
 use Rattle.tariff.specs.Amounts.{nothing, amountOf, sum, more, less, opposite, positivePart, inward, outward, within, size, together, added, withinMills, sizeMills}
 use Rattle.tariff.specs.Structs.{Mills, Quantity, Step, Units}
+use Rattle.tariff.specs.Closing.{forfeitUnder}
 use Rattle.tariff.specs.Steps.{settledStep}
 use Rattle.tariff.proofs.Signed.{size-between}
 
@@ -33,6 +34,10 @@ more-value a q = refl
 pub less-value : (a : Units) (q : Quantity) → less a q .0 ≡ a .0 -ℤ pos (q .0)
 unfolding less
 less-value a q = refl
+
+pub forfeit-value : (new : Bool) (confiscated excess : Quantity) → forfeitUnder new confiscated excess .0 ≡ cond new (min (confiscated .0) (excess .0)) (excess .0)
+unfolding forfeitUnder
+forfeit-value new confiscated excess = refl
 
 pub together-value : (a b : Quantity) → together a b .0 ≡ a .0 + b .0
 unfolding together
