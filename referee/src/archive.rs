@@ -1,9 +1,10 @@
 //! The archive: reader, writer, replay, year sheet and the panel program's
 //! line.
 //!
-//! A file opens with EFB1, the number of its sections in two bytes and two
-//! bytes of zero. A directory follows, where each section has its offset and
-//! its length in four bytes each, and then the sections of whole entries.
+//! A file opens with EFB1 if it is old or EFB2 if it is new, the number of its
+//! sections in two bytes and two bytes of zero. A directory follows, where each
+//! section has its offset and its length in four bytes each, and then the
+//! sections of whole entries.
 
 use crate::calendar::Month;
 use crate::entry::{entry_number, Entry, ENTRY, KIND_CLOSE_MONTH};
@@ -11,7 +12,6 @@ use crate::ledger::{panel, Ledger, ACCOUNTS};
 use crate::number;
 use crate::posting::post;
 
-const OPENING: [u8; 4] = [69, 70, 66, 49];
 const HEADER: usize = 8;
 const PAIR: usize = 8;
 const SECTIONS_MAX: usize = 1_200;
@@ -23,6 +23,18 @@ const PANEL_BYTES_MAX: usize = 65_536;
 type Refusal = (u64, usize);
 
 type Bytes32 = [u8; ENTRY];
+
+/// The opening bytes of an archive that is old or new.
+fn opening(is_new: bool) -> [u8; 4] {
+    [69, 70, 66, if is_new { 50 } else { 49 }]
+}
+
+/// Whether an archive is new, or nothing where it opens as neither.
+fn opens_new(archive: &[u8]) -> Option<bool> {
+    [false, true]
+        .into_iter()
+        .find(|&is_new| archive.starts_with(&opening(is_new)))
+}
 
 /// The number of the reader, and the index of the entry refused.
 pub fn check(archive: &[u8]) -> (u64, usize) {
@@ -41,6 +53,7 @@ pub fn section(archive: &[u8], index: usize) -> Result<&[u8], (u64, usize)> {
 /// A checked archive.
 #[derive(Clone, Copy)]
 struct Sections<'a> {
+    is_new: bool,
     archive: &'a [u8],
     pairs: &'a [[u8; PAIR]],
 }
@@ -69,29 +82,31 @@ fn split_pair(pair: &[u8; PAIR]) -> (u64, u64) {
 
 /// The reader's checks: 8, 9, then each entry by 2 to 7 and 10.
 fn read(archive: &[u8]) -> Result<Sections<'_>, Refusal> {
-    let pairs = directory(archive).ok_or((number::HEADER, 0))?;
-    if !pairs_fit(pairs, archive.len() as u64) {
+    let sections = directory(archive).ok_or((number::HEADER, 0))?;
+    if !pairs_fit(sections.pairs, archive.len() as u64) {
         return Err((number::DIRECTORY, 0));
     }
-    let sections = Sections { archive, pairs };
     check_entries(&sections)?;
     Ok(sections)
 }
 
-/// The directory, or nothing where number 8 applies.
-fn directory(archive: &[u8]) -> Option<&[[u8; PAIR]]> {
+/// The archive with its directory, or nothing where number 8 applies.
+fn directory(archive: &[u8]) -> Option<Sections<'_>> {
+    let is_new = opens_new(archive)?;
     let (header, rest) = archive.split_first_chunk::<HEADER>()?;
-    let [o0, o1, o2, o3, low, high, zero0, zero1] = *header;
+    let [_, _, _, _, low, high, zero0, zero1] = *header;
     let count = usize::from(u16::from_le_bytes([low, high]));
-    let fits = archive.len() as u64 <= BYTES_MAX
-        && [o0, o1, o2, o3] == OPENING
-        && [zero0, zero1] == [0, 0]
-        && count <= SECTIONS_MAX;
+    let fits =
+        archive.len() as u64 <= BYTES_MAX && [zero0, zero1] == [0, 0] && count <= SECTIONS_MAX;
     if !fits {
         return None;
     }
     let (pairs, _) = rest.get(..PAIR * count)?.as_chunks();
-    Some(pairs)
+    Some(Sections {
+        is_new,
+        archive,
+        pairs,
+    })
 }
 
 /// Number 9: each section begins where the former ended, and the last one
@@ -116,7 +131,7 @@ fn check_entries(sections: &Sections) -> Result<(), Refusal> {
         let end = index + length as usize / ENTRY;
         let last_section = place + 1 == sections.pairs.len();
         for (index, entry) in (index..end).zip(&entries[index..end]) {
-            accept_entry(entry, index)?;
+            accept_entry(sections.is_new, entry, index)?;
             let ends_month = entry[0] == KIND_CLOSE_MONTH;
             let fits = if index + 1 == end {
                 ends_month || last_section
@@ -133,8 +148,8 @@ fn check_entries(sections: &Sections) -> Result<(), Refusal> {
 }
 
 /// Numbers 1 to 7 of one entry, as a refusal at its index.
-fn accept_entry(entry: &[u8], index: usize) -> Result<(), Refusal> {
-    match entry_number(entry) {
+fn accept_entry(is_new: bool, entry: &[u8], index: usize) -> Result<(), Refusal> {
+    match entry_number(is_new, entry) {
         number::ACCEPTED => Ok(()),
         number => Err((number, index)),
     }
@@ -148,10 +163,11 @@ pub struct Written {
     pub length: usize,
 }
 
-/// Writes a list of entries as an archive into the first bytes of the output.
-/// Refused, the output is untouched; bytes past the archive always are.
-pub fn write(list: &[u8], out: &mut [u8]) -> Written {
-    let (number, index, length) = match try_write(list, out) {
+/// Writes a list of entries as an archive, old or new, into the first bytes of
+/// the output. Refused, the output is untouched; bytes past the archive always
+/// are.
+pub fn write(is_new: bool, list: &[u8], out: &mut [u8]) -> Written {
+    let (number, index, length) = match try_write(is_new, list, out) {
         Ok(length) => (number::ACCEPTED, 0, length),
         Err((number, index)) => (number, index, 0),
     };
@@ -162,20 +178,20 @@ pub fn write(list: &[u8], out: &mut [u8]) -> Written {
     }
 }
 
-fn try_write(list: &[u8], out: &mut [u8]) -> Result<usize, Refusal> {
+fn try_write(is_new: bool, list: &[u8], out: &mut [u8]) -> Result<usize, Refusal> {
     let (entries, rest) = list.as_chunks::<ENTRY>();
     if !rest.is_empty() {
         return Err((number::LENGTH, 0));
     }
     for (index, entry) in entries.iter().enumerate() {
-        accept_entry(entry, index)?;
+        accept_entry(is_new, entry, index)?;
     }
 
     let count = split_list(entries).count();
     let size = archive_size(count, list.len()).ok_or((number::TOO_LARGE, 0))?;
     let out = out.get_mut(..size).ok_or((number::OUTPUT, 0))?;
 
-    out[..4].copy_from_slice(&OPENING);
+    out[..4].copy_from_slice(&opening(is_new));
     out[4..6].copy_from_slice(&(count as u16).to_le_bytes());
     out[6..HEADER].fill(0);
     let mut offset = HEADER + PAIR * count;
@@ -209,8 +225,8 @@ fn fill_section(part: &mut [u8], section: &[u8]) {
     part[..section.len()].copy_from_slice(section);
 }
 
-/// What a replay of an archive gives; of a refused one, a fresh ledger and no
-/// counts.
+/// What a replay of an archive gives; of a refused one, no counts and a fresh
+/// ledger, which is new exactly if the archive opens as a new one.
 #[derive(Clone, PartialEq, Eq, Debug)]
 pub struct Replay {
     pub number: u64,
@@ -232,7 +248,7 @@ fn replay_watched(archive: &[u8], mut watch: impl FnMut(&Bytes32, &Ledger)) -> R
         index: 0,
         accepted: 0,
         refused: 0,
-        ledger: Ledger::fresh(),
+        ledger: Ledger::fresh(opens_new(archive).unwrap_or(false)),
     };
     match read(archive) {
         Ok(sections) => {
@@ -258,7 +274,7 @@ fn replay_watched(archive: &[u8], mut watch: impl FnMut(&Bytes32, &Ledger)) -> R
 pub fn year_sheet(archive: &[u8], year: u64) -> [[i64; 12]; ACCOUNTS] {
     let mut sheet = [[0; 12]; ACCOUNTS];
     replay_watched(archive, |bytes, ledger| {
-        let Some(month) = closed_month(bytes, year) else {
+        let Some(month) = closed_month(ledger.is_new, bytes, year) else {
             return;
         };
         for (row, account) in sheet.iter_mut().zip(&ledger.accounts) {
@@ -271,11 +287,11 @@ pub fn year_sheet(archive: &[u8], year: u64) -> [[i64; 12]; ACCOUNTS] {
 }
 
 /// The month of that gas year that an entry closes, if it does.
-fn closed_month(bytes: &Bytes32, year: u64) -> Option<Month> {
+fn closed_month(is_new: bool, bytes: &Bytes32, year: u64) -> Option<Month> {
     if bytes[0] != KIND_CLOSE_MONTH {
         return None;
     }
-    let date = Entry::decode(bytes).ok()?.date;
+    let date = Entry::decode(is_new, bytes).ok()?.date;
     (date.gas_year() == year).then_some(date.month())
 }
 

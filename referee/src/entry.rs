@@ -1,7 +1,7 @@
 //! The entry of 32 bytes, and numbers 1 to 7.
 
 use crate::calendar::Date;
-use crate::ledger::{Prices, Terms, ACCOUNTS, MCF_MAX, MDQ_MAX};
+use crate::ledger::{Prices, Terms, ACCOUNTS, CONFISCATION_MAX, MCF_MAX, MDQ_MAX};
 use crate::number;
 use std::ops::RangeInclusive;
 
@@ -24,7 +24,7 @@ pub struct Entry {
     pub posting: Posting,
 }
 
-/// The nine kinds. Accounts are 0 to 15, words within their ranges.
+/// The ten kinds. Accounts are 0 to 15, words within their ranges.
 #[derive(Clone, Copy, PartialEq, Eq, Debug)]
 pub enum Posting {
     Terms(Terms),
@@ -65,6 +65,11 @@ pub enum Posting {
     },
     CloseDay,
     CloseMonth(Prices),
+    /// The storage provider confiscated; in new ledgers and archives only.
+    Confiscated {
+        account: usize,
+        units: u64,
+    },
 }
 
 /// Which bytes a kind uses: how many accounts, the sum of its flags, and how
@@ -76,7 +81,7 @@ struct Uses {
 }
 
 /// In the order of the kinds, from 1.
-const USES: [Uses; 9] = {
+const USES: [Uses; 10] = {
     const fn uses(accounts: usize, flags: u8, words: usize) -> Uses {
         Uses {
             accounts,
@@ -94,24 +99,36 @@ const USES: [Uses; 9] = {
         uses(1, 0, 1),                     // USAGE
         uses(0, 0, 0),                     // CLOSE DAY
         uses(0, 0, 4),                     // CLOSE MONTH
+        uses(1, 0, 1),                     // CONFISCATED
     ]
 };
 
-/// The number, 0 or 1 to 7, of any bytes as an entry.
-pub fn entry_number(bytes: &[u8]) -> u64 {
-    Entry::decode(bytes).err().unwrap_or(number::ACCEPTED)
+/// How many of them an old ledger or archive knows.
+const OLD_KINDS: usize = 9;
+
+/// The number, 0 or 1 to 7, of any bytes as an entry, old or new.
+pub fn entry_number(is_new: bool, bytes: &[u8]) -> u64 {
+    Entry::decode(is_new, bytes)
+        .err()
+        .unwrap_or(number::ACCEPTED)
 }
 
 impl Entry {
-    /// The entry in these bytes, or the first number that refuses it.
-    pub fn decode(bytes: &[u8]) -> Result<Entry, u64> {
+    /// The entry in these bytes, or the first number that refuses it, in a
+    /// ledger or archive that is old or new.
+    pub fn decode(is_new: bool, bytes: &[u8]) -> Result<Entry, u64> {
         let bytes: &[u8; ENTRY] = bytes.try_into().map_err(|_| number::LENGTH)?;
         let [kind, a, b, flags, year_low, year_high, month, day, ..] = *bytes;
         let words = words(bytes);
 
+        let known = if is_new {
+            &USES[..]
+        } else {
+            &USES[..OLD_KINDS]
+        };
         let uses = usize::from(kind)
             .checked_sub(1)
-            .and_then(|place| USES.get(place))
+            .and_then(|place| known.get(place))
             .ok_or(number::KIND)?;
 
         let year = u16::from_le_bytes([year_low, year_high]);
@@ -140,7 +157,7 @@ fn words(bytes: &[u8; ENTRY]) -> [u64; 6] {
     std::array::from_fn(|place| u32::from_le_bytes(words[place]).into())
 }
 
-/// Numbers 6 and 7, for a kind from 1 to 9.
+/// Numbers 6 and 7, for a kind that is known.
 fn posting(kind: u8, accounts: [usize; 2], flags: u8, words: [u64; 6]) -> Result<Posting, u64> {
     let [account, other] = accounts;
     let [w1, w2, w3, w4, w5, w6] = words;
@@ -202,6 +219,10 @@ fn posting(kind: u8, accounts: [usize; 2], flags: u8, words: [u64; 6]) -> Result
             };
             (prices.in_range(), Posting::CloseMonth(prices))
         }
+        10 => (
+            w1 <= CONFISCATION_MAX,
+            Posting::Confiscated { account, units: w1 },
+        ),
         _ => return Err(number::KIND),
     };
     if !in_range {

@@ -19,6 +19,7 @@ const BCQ_MAX: u64 = 30_000_000;
 const VIOLATION_DAYS_MAX: u64 = 40_000;
 pub(crate) const MDQ_MAX: u64 = 300_000;
 pub(crate) const MCF_MAX: u64 = 100_000_000;
+pub(crate) const CONFISCATION_MAX: u64 = 1_000_000_000;
 
 /// A supplier's account. Gas is in units unless said otherwise.
 #[derive(Clone, Copy, PartialEq, Eq, Debug, Default)]
@@ -56,6 +57,8 @@ pub struct Account {
     /// Mills.
     pub owed: i64,
     pub violation_days: u64,
+    /// The amount that CONFISCATED posted today.
+    pub confiscation: u64,
 
     /// Mark of the day: DELIVER was accepted.
     pub delivered: bool,
@@ -67,6 +70,8 @@ pub struct Account {
     pub v1: bool,
     /// Mark of the day: the delivery broke V2.
     pub v2: bool,
+    /// Mark of the day: CONFISCATED was accepted.
+    pub confiscated: bool,
     /// The step fell, and the bank need not fit at once.
     pub excused: bool,
 }
@@ -88,6 +93,7 @@ impl Account {
             && self.usage <= MCF_MAX
             && OWED.contains(&self.owed)
             && self.violation_days <= VIOLATION_DAYS_MAX
+            && self.confiscation <= CONFISCATION_MAX
             && (!self.opened || STEPS.contains(&self.k) && STEPS.contains(&self.pending))
             && self.over <= RUN_MAX
             && self.under <= RUN_MAX
@@ -115,6 +121,9 @@ pub struct Ledger {
     pub begun: bool,
     /// Something was accepted today.
     pub touched: bool,
+    /// Kept from the fresh ledger on: CONFISCATED exists, and bounds the
+    /// forfeit.
+    pub is_new: bool,
     pub year: u64,
     pub month: u64,
     pub day: u64,
@@ -124,10 +133,11 @@ pub struct Ledger {
 
 impl Ledger {
     /// No terms, no date, no open account.
-    pub fn fresh() -> Ledger {
+    pub fn fresh(is_new: bool) -> Ledger {
         Ledger {
             begun: false,
             touched: false,
+            is_new,
             year: 0,
             month: 0,
             day: 0,

@@ -5,6 +5,9 @@
 //! the 32-byte entry, the ledger with its ranges and panel, the postings with
 //! the two closings, and the archive above them all.
 //!
+//! Ledgers and archives are old or new. Only the new ones have CONFISCATED,
+//! and forfeit no more than it posts; one parameter carries that through.
+//!
 //! Gas that moves is in units, a hundred to the Dth; MDQ, MDDQ and BCQ are in
 //! Dth, consumption is in Mcf and money in mills. A percentage p of a BCQ is
 //! therefore p × BCQ in units, without a quotient.

@@ -6,7 +6,7 @@ pub const ACCEPTED: u64 = 0;
 
 /// An entry has 32 bytes, a list a multiple of 32.
 pub const LENGTH: u64 = 1;
-/// Kinds are 1 to 9.
+/// Kinds are 1 to 9, and 10 in new ledgers and archives only.
 pub const KIND: u64 = 2;
 /// The calendar of 2000 to 2099 has no such day.
 pub const DATE: u64 = 3;
@@ -45,7 +45,7 @@ pub const WRONG_DAY: u64 = 23;
 pub const OPEN: u64 = 24;
 /// The supplier is not served under EFBS.
 pub const STAYS: u64 = 25;
-/// DELIVER was posted today, or MEASURE or USAGE this month.
+/// DELIVER or CONFISCATED was posted today, or MEASURE or USAGE this month.
 pub const SECOND: u64 = 26;
 /// A closing finds an open account without a posting that it needs.
 pub const LACKING: u64 = 27;

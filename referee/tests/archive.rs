@@ -6,9 +6,13 @@ use common::*;
 use referee::{check, panel_line, replay, section, write, year_sheet, Ledger, Written};
 
 fn archive_of(entries: &[Bytes]) -> Vec<u8> {
+    told_archive_of(false, entries)
+}
+
+fn told_archive_of(is_new: bool, entries: &[Bytes]) -> Vec<u8> {
     let list = entries.concat();
     let mut out = vec![0; 8 + 8 * 1_200 + list.len()];
-    let written = write(&list, &mut out);
+    let written = write(is_new, &list, &mut out);
     assert_eq!((written.number, written.index), (0, 0));
     out.truncate(written.length);
     out
@@ -129,29 +133,29 @@ fn numbers_11_and_12() {
         index: 0,
         length: 0,
     };
-    assert_eq!(write(&list, &mut out), refused);
+    assert_eq!(write(false, &list, &mut out), refused);
     assert!(out.iter().all(|&byte| byte == 7));
     let length = 8 + 40 * 1_200;
-    let written = write(&list[32..], &mut out);
+    let written = write(false, &list[32..], &mut out);
     assert_eq!((written.number, written.length), (0, length));
     assert_eq!(check(&out[..length]), (0, 0));
     // One more section that ends otherwise is too many as well.
     let mut longer = list[32..].to_vec();
     longer.extend(close_day(START));
-    assert_eq!(write(&longer, &mut out).number, 11);
+    assert_eq!(write(false, &longer, &mut out).number, 11);
 
     let list = terms(START, 0, 0);
     for room in 0..48 {
         let mut out = vec![7; room];
-        let written = write(&list, &mut out);
+        let written = write(false, &list, &mut out);
         assert_eq!((written.number, written.length), (12, 0));
         assert!(out.iter().all(|&byte| byte == 7));
     }
     let mut out = vec![7; 60];
-    assert_eq!(write(&list, &mut out).length, 48);
+    assert_eq!(write(false, &list, &mut out).length, 48);
     assert!(out[48..].iter().all(|&byte| byte == 7));
     assert_eq!(check(&out[..48]), (0, 0));
-    assert_eq!(write(&[], &mut [0; 7]).number, 12);
+    assert_eq!(write(false, &[], &mut [0; 7]).number, 12);
 }
 
 #[test]
@@ -159,10 +163,10 @@ fn the_list_comes_first() {
     let mut out = [7; 8];
     let mut list = [terms(START, 0, 0), close_day(START)].concat();
     list[32 + 3] = 1;
-    let written = write(&list, &mut out);
+    let written = write(false, &list, &mut out);
     assert_eq!((written.number, written.index), (5, 1));
     list.pop();
-    let written = write(&list, &mut out);
+    let written = write(false, &list, &mut out);
     assert_eq!((written.number, written.index), (1, 0));
     assert_eq!(out, [7; 8]);
 }
@@ -179,9 +183,180 @@ fn number_13() {
     assert_eq!(section(&spoilt(24 + 64, 0), 0), Err((2, 2)));
 }
 
+#[test]
+fn what_the_writer_of_new_archives_writes() {
+    let list = [terms(START, 0, 0), month_end(), close_day(START)];
+    for entries in [&list[..], &list[..1], &[]] {
+        let old = archive_of(entries);
+        let new = told_archive_of(true, entries);
+        assert_eq!((old[3], new[3]), (49, 50));
+        let mut changed = old.clone();
+        changed[3] = 50;
+        assert_eq!(new, changed);
+        assert_eq!(check(&new), (0, 0));
+    }
+    assert_eq!(told_archive_of(true, &[]), b"EFB2\0\0\0\0");
+
+    // CONFISCATED ends no section.
+    let new = told_archive_of(true, &[month_end(), confiscated(0, JANUARY, 7), list[0]]);
+    assert_eq!(&new[..8], b"EFB2\x02\0\0\0");
+    assert_eq!(check(&new), (0, 0));
+    assert_eq!(section(&new, 0), Ok(&new[24..56]));
+    assert_eq!(section(&new, 1), Ok(&new[56..]));
+    assert_eq!(new[56..88], confiscated(0, JANUARY, 7));
+    assert_eq!(section(&new, 2), Err((13, 0)));
+}
+
+#[test]
+fn the_writer_is_told() {
+    let list = [terms(START, 0, 0), confiscated(0, JANUARY, 7)].concat();
+    let refused = |is_new, list: &[u8]| {
+        let mut out = [7; 80];
+        let written = write(is_new, list, &mut out);
+        assert_eq!((out, written.length), ([7; 80], 0));
+        (written.number, written.index)
+    };
+    assert_eq!(refused(false, &list), (2, 1));
+    assert_eq!(write(true, &list, &mut [0; 80]).length, 80);
+    for kind in [0, 11, 255] {
+        let mut list = list.clone();
+        list[32] = kind;
+        assert_eq!(refused(true, &list), (2, 1));
+        assert_eq!(refused(false, &list), (2, 1));
+    }
+    // The other numbers are the same in both.
+    let later = terms(START, 0, 0);
+    for is_new in [false, true] {
+        assert_eq!(refused(is_new, &list[..63]), (1, 0));
+        assert_eq!(refused(is_new, &[later; 3].concat()), (12, 0));
+        assert_eq!(refused(is_new, &[month_end(); 1_201].concat()), (11, 0));
+    }
+    let mut wrong = list;
+    wrong[32 + 1] = 16;
+    assert_eq!(refused(true, &wrong), (4, 1));
+    assert_eq!(refused(false, &wrong), (2, 1));
+}
+
+#[test]
+fn the_fourth_byte() {
+    let entries = [
+        terms(START, 0, 0),
+        month_end(),
+        confiscated(0, JANUARY, 7),
+        close_day(START),
+    ];
+    for value in 0..=255 {
+        // Read by either rule.
+        let mut archive = sample();
+        archive[3] = value;
+        let known = matches!(value, 49 | 50);
+        assert_eq!(check(&archive), (if known { 0 } else { 8 }, 0));
+        // With an entry that is for new archives only.
+        let mut archive = told_archive_of(true, &entries);
+        archive[3] = value;
+        let expected = match value {
+            49 => (2, 2),
+            50 => (0, 0),
+            _ => (8, 0),
+        };
+        assert_eq!(check(&archive), expected);
+        assert_eq!(replay(&archive).number, expected.0);
+        if value != 50 {
+            let (number, index) = expected;
+            assert_eq!(section(&archive, 0), Err(expected));
+            let line = format!("archive {number} {index}");
+            assert_eq!(panel_line(&archive), line);
+            assert_eq!(year_sheet(&archive, 2026), [[0; 12]; 16]);
+        }
+        // 8 comes before 9, and 9 before the entries.
+        archive.push(0);
+        assert_eq!(check(&archive), (if known { 9 } else { 8 }, 0));
+    }
+}
+
+#[test]
+fn entries_of_a_new_archive() {
+    let entries = [month_end(), close_day(START), confiscated(0, JANUARY, 7)];
+    let archive = told_archive_of(true, &entries);
+    // The kind, the date, A, the flags, w2 and w1 of the last entry.
+    for (place, value, number) in [
+        (0, 10, 0),
+        (0, 11, 2),
+        (7, 32, 3),
+        (1, 16, 4),
+        (3, 1, 5),
+        (12, 1, 5),
+        (11, 60, 6),
+    ] {
+        let mut archive = archive.clone();
+        archive[24 + 64 + place] = value;
+        let index = if number == 0 { 0 } else { 2 };
+        assert_eq!(check(&archive), (number, index));
+    }
+    // A section but the last that CONFISCATED ends.
+    let mut archive = archive;
+    archive[24..56].copy_from_slice(&confiscated(0, JANUARY, 7));
+    assert_eq!(check(&archive), (10, 0));
+}
+
+/// A replay that is refused by this number, to a fresh ledger.
+fn refused(archive: &[u8], number: u64, is_new: bool) {
+    let all = replay(archive);
+    assert_eq!((all.number, all.accepted, all.refused), (number, 0, 0));
+    assert_eq!(all.ledger, Ledger::fresh(is_new), "{archive:?}");
+}
+
+#[test]
+fn replays_of_refused_archives() {
+    for is_new in [false, true] {
+        let archive = told_archive_of(is_new, &[terms(START, 0, 0), close_day(START)]);
+        // Shorter than four bytes it is not told apart.
+        for length in 0..4 {
+            refused(&archive[..length], 8, false);
+        }
+        for length in 4..16 {
+            refused(&archive[..length], 8, is_new);
+        }
+        for length in 16..archive.len() {
+            refused(&archive[..length], 9, is_new);
+        }
+        let mut unknown = archive.clone();
+        unknown[16 + 32] = 11;
+        refused(&unknown, 2, is_new);
+        assert_eq!(replay(&unknown).index, 1);
+        for value in [0, 48, 51, 255] {
+            let mut other = archive.clone();
+            other[3] = value;
+            refused(&other, 8, false);
+        }
+        for place in 0..3 {
+            let mut other = archive.clone();
+            other[place] += 1;
+            refused(&other, 8, false);
+        }
+    }
+    // By 2, as CONFISCATED is in an old archive.
+    let mut archive = told_archive_of(true, &[confiscated(0, JANUARY, 7)]);
+    archive[3] = 49;
+    refused(&archive, 2, false);
+}
+
+#[test]
+fn replays_of_short_lists() {
+    for is_new in [false, true] {
+        let archive = told_archive_of(is_new, &[terms(START, 0, 0), close_day(START)]);
+        let all = replay(&archive);
+        assert_eq!((all.number, all.accepted), (0, 2));
+        assert_eq!(all.ledger.is_new, is_new);
+        let none = replay(&told_archive_of(is_new, &[]));
+        assert_eq!((none.number, none.accepted), (0, 0));
+        assert_eq!(none.ledger, Ledger::fresh(is_new));
+    }
+}
+
 /// A list from April of a year on, for some months: each day an injection.
 fn months(count: usize) -> Vec<Bytes> {
-    let mut ledger = Ledger::fresh();
+    let mut ledger = Ledger::fresh(false);
     let mut list = Vec::new();
     let mut say = |ledger: &mut Ledger, bytes: Bytes| {
         accept(ledger, &bytes);
@@ -241,6 +416,45 @@ fn the_year_sheet() {
 }
 
 #[test]
+fn old_and_new_replays() {
+    // 98 units on each of 306 days, from 1,000 and from 0; with these sales
+    // both banks are 9 above 4,062,825 on January 31.
+    let day = (2027, 1, 31);
+    let mut list = months(10);
+    let closing = list.pop().unwrap();
+    list.push(trade(0, 0, day, 4_031_846));
+    list.push(trade(5, 0, day, 4_032_846));
+    let before = list.clone();
+    list.push(closing);
+    let count = list.len();
+    let seen = |archive: &[u8]| {
+        let sheet = year_sheet(archive, 2026);
+        let banks = replay(archive).ledger.accounts.map(|account| account.bank);
+        assert_eq!((sheet[0][9], sheet[5][9]), (banks[0], banks[5]));
+        (banks[0], banks[5], panel_line(archive))
+    };
+    // The same list by both rules.
+    let line = format!("{count} 0 8125650");
+    assert_eq!(seen(&archive_of(&list)), (4_062_825, 4_062_825, line));
+    let line = format!("{count} 0 8125668");
+    let new = told_archive_of(true, &list);
+    assert_eq!(seen(&new), (4_062_834, 4_062_834, line));
+
+    // 5 of the 9 confiscated from account 0; the second posting is refused.
+    let mut list = before;
+    let index = list.len();
+    list.push(confiscated(0, day, 5));
+    list.push(confiscated(0, day, 5));
+    list.push(closing);
+    let line = format!("{} 1 8125663", count + 1);
+    let mut archive = told_archive_of(true, &list);
+    assert_eq!(seen(&archive), (4_062_829, 4_062_834, line));
+    archive[3] = 49;
+    assert_eq!(check(&archive), (2, index));
+    assert_eq!(panel_line(&archive), format!("archive 2 {index}"));
+}
+
+#[test]
 fn the_replay() {
     let list = [
         terms(START, 0, 0),
@@ -256,7 +470,7 @@ fn the_replay() {
     let refused = replay(&sample()[..9]);
     assert_eq!((refused.number, refused.index), (8, 0));
     assert_eq!((refused.accepted, refused.refused), (0, 0));
-    assert_eq!(refused.ledger, Ledger::fresh());
+    assert_eq!(refused.ledger, Ledger::fresh(false));
 }
 
 #[test]

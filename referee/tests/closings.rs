@@ -3,13 +3,16 @@
 mod common;
 
 use common::*;
-use referee::{Account, Report};
+use referee::{Account, Ledger, Report};
 
 const BCQ: i64 = 62_505;
 
 /// The report and the account after the closing of that day.
 fn closed(day: Day, prices: [u32; 4], change: impl FnOnce(&mut Account)) -> (Report, Account) {
-    let mut ledger = ready_to_close(day, change);
+    closed_from(ready_to_close(day, change), day, prices)
+}
+
+fn closed_from(mut ledger: Ledger, day: Day, prices: [u32; 4]) -> (Report, Account) {
     let answer = close(&mut ledger, day, prices);
     assert!(answer.reports[1..]
         .iter()
@@ -256,6 +259,214 @@ fn the_forfeit() {
     let (report, account) = closed((2026, 1, 31), [0; 4], |a| a.bank = 103 * BCQ);
     assert_eq!((report.cash, report.forfeit), (-5 * BCQ, 33 * BCQ as u64));
     assert_eq!(account.bank, 65 * BCQ);
+}
+
+/// The forfeit and the bank that the closing of a new ledger leaves, with
+/// these units posted.
+fn forfeited(day: Day, posted: Option<u32>, change: impl FnOnce(&mut Account)) -> (u64, i64) {
+    let mut ledger = told(true, ready_to_close(day, change));
+    if let Some(units) = posted {
+        accept(&mut ledger, &confiscated(0, day, units));
+    }
+    let (report, account) = closed_from(ledger, day, [0; 4]);
+    assert_eq!((account.confiscation, account.confiscated), (0, false));
+    (report.forfeit, account.bank)
+}
+
+#[test]
+fn the_forfeit_of_a_new_ledger() {
+    for year in [2000, 2026, 2099] {
+        // 65 and 25 times 62,505.
+        for (month, kept) in [(1, 4_062_825), (3, 1_562_625)] {
+            let day = (year, month, 31);
+            let by = |excess, posted| forfeited(day, posted, |a| a.bank = kept + excess);
+            // Excess above, equal to and below the amount.
+            assert_eq!(by(9, Some(8)), (8, kept + 1));
+            assert_eq!(by(9, Some(9)), (9, kept));
+            assert_eq!(by(9, Some(10)), (9, kept));
+            assert_eq!(by(9, Some(1_000_000_000)), (9, kept));
+            assert_eq!(by(1, Some(1)), (1, kept));
+            // 0 posted, and nothing posted.
+            assert_eq!(by(9, Some(0)), (0, kept + 9));
+            assert_eq!(by(9, None), (0, kept + 9));
+            // No excess.
+            assert_eq!(by(0, Some(5)), (0, kept));
+            assert_eq!(by(-1, Some(5)), (0, kept - 1));
+            assert_eq!(by(-kept, Some(5)), (0, 0));
+        }
+    }
+    // The most of both.
+    for day in [JANUARY, MARCH] {
+        let by = |posted| {
+            forfeited(day, posted, |a| {
+                a.bank = 100_000_000_000;
+                a.excused = true;
+            })
+        };
+        assert_eq!(by(Some(1_000_000_000)), (1_000_000_000, 99_000_000_000));
+        assert_eq!(by(None), (0, 100_000_000_000));
+    }
+}
+
+#[test]
+fn the_excess_is_measured_as_before() {
+    // Over the reworked BCQ: a fall to 31,252, a rise to 93,757.
+    for (day, bank, kept, excess) in [
+        (JANUARY, 4_062_825, 2_031_380, 2_031_445),
+        (MARCH, 1_562_625, 781_300, 781_325),
+    ] {
+        let falling = |posted| {
+            forfeited(day, Some(posted), |a| {
+                a.bank = bank;
+                a.pending = 1;
+            })
+        };
+        assert_eq!(falling(excess - 1), (u64::from(excess) - 1, kept + 1));
+        assert_eq!(falling(excess), (u64::from(excess), kept));
+        assert_eq!(falling(excess + 1), (u64::from(excess), kept));
+        let rising = forfeited(day, Some(9), |a| {
+            a.bank = bank + 9;
+            a.pending = 3;
+        });
+        assert_eq!(rising, (0, bank + 9));
+    }
+    // After the cash of the day: from 103 percent down to 98 in January and
+    // 45 in March, so 33 and 20 percent are in excess.
+    for (day, cash, excess, kept) in [
+        (JANUARY, -312_525, 2_062_665, 4_062_825),
+        (MARCH, -3_625_290, 1_250_100, 1_562_625),
+    ] {
+        for (posted, forfeit) in [(excess - 1, excess - 1), (excess + 1, excess)] {
+            let mut ledger = told(true, ready_to_close(day, |a| a.bank = 6_438_015));
+            accept(&mut ledger, &confiscated(0, day, posted));
+            let (report, account) = closed_from(ledger, day, [0; 4]);
+            assert_eq!((report.cash, report.forfeit), (cash, u64::from(forfeit)));
+            assert_eq!(account.bank, kept + i64::from(excess - forfeit));
+        }
+        // Cash-in ends below what is kept.
+        let least = if day == JANUARY { 3_687_795 } else { 1_125_090 };
+        assert_eq!(forfeited(day, Some(5), |a| a.bank = -1), (0, least));
+    }
+}
+
+#[test]
+fn the_recorded_amount_alone_bounds_the_forfeit() {
+    for (day, kept) in [(JANUARY, 4_062_825), (MARCH, 1_562_625)] {
+        for (confiscation, confiscated) in [(4, true), (4, false), (0, true), (0, false)] {
+            let ledger = ready_to_close(day, |a| {
+                a.bank = kept + 9;
+                a.confiscation = confiscation;
+                a.confiscated = confiscated;
+            });
+            let clean = Account {
+                bank: kept + 9,
+                violation_days: u64::from(day == MARCH), // V5
+                ..marked_account()
+            };
+            let (report, account) = closed_from(told(true, ledger.clone()), day, [0; 4]);
+            assert_eq!(report.forfeit, confiscation);
+            let bank = kept + 9 - confiscation as i64;
+            assert_eq!(account, Account { bank, ..clean });
+            // An old ledger does not look at it.
+            let (report, account) = closed_from(told(false, ledger), day, [0; 4]);
+            assert_eq!(report.forfeit, 9);
+            assert_eq!(
+                account,
+                Account {
+                    bank: kept,
+                    ..clean
+                }
+            );
+        }
+    }
+}
+
+#[test]
+fn no_other_day_forfeits() {
+    for (month, d) in [
+        (1, 30),
+        (2, 28),
+        (3, 30),
+        (4, 30),
+        (6, 30),
+        (8, 31),
+        (12, 31),
+    ] {
+        let posted = |a: &mut Account| {
+            a.bank = 90 * BCQ;
+            a.confiscation = 1_000_000_000;
+            a.confiscated = true;
+        };
+        assert_eq!(forfeited((2026, month, d), None, posted), (0, 90 * BCQ));
+    }
+}
+
+#[test]
+fn each_account_by_its_own_amount() {
+    for (day, kept) in [(JANUARY, 4_062_825), (MARCH, 1_562_625)] {
+        let mut ledger = told(true, ready_to_close(day, |a| a.bank = kept + 9));
+        for place in [3, 7, 15] {
+            ledger.accounts[place] = ledger.accounts[0];
+        }
+        ledger.accounts[15].bank = kept - 9;
+        for (a, units) in [(0, 5), (7, 100), (15, 100)] {
+            accept(&mut ledger, &confiscated(a, day, units));
+        }
+        let answer = accept(&mut ledger, &close_month(day, [0; 4]));
+        let forfeits = answer.reports.map(|report| report.forfeit);
+        assert_eq!(forfeits, [5, 0, 0, 0, 0, 0, 0, 9, 0, 0, 0, 0, 0, 0, 0, 0]);
+        let banks = [0, 3, 7, 15].map(|place| ledger.accounts[place].bank);
+        assert_eq!(banks, [kept + 4, kept + 9, kept, kept - 9]);
+        assert!(ledger.is_new);
+    }
+}
+
+#[test]
+fn amount_and_mark_clear_for_open_accounts() {
+    let days = [(2026, 5, 30), (2026, 5, 31), (2026, 1, 30), JANUARY, MARCH];
+    for (is_new, day) in days.into_iter().flat_map(|day| [(false, day), (true, day)]) {
+        let mut ledger = told(
+            is_new,
+            ready_to_close(day, |a| {
+                a.confiscation = 7;
+                a.confiscated = true;
+            }),
+        );
+        ledger.accounts[2] = ledger.accounts[0];
+        ledger.accounts[1] = Account {
+            opened: false,
+            bank: 6_000_000,
+            ..ledger.accounts[0]
+        };
+        let kept = ledger.accounts[1];
+        close(&mut ledger, day, [0; 4]);
+        for place in [0, 2] {
+            assert_eq!(ledger.accounts[place].confiscation, 0);
+            assert!(!ledger.accounts[place].confiscated);
+        }
+        assert_eq!(ledger.accounts[1], kept);
+        assert_eq!(ledger.is_new, is_new);
+    }
+}
+
+#[test]
+fn an_amount_is_for_its_day_alone() {
+    let mut ledger = told(true, ready_to_close(JANUARY, |a| a.bank = 4_062_834));
+    accept(&mut ledger, &confiscated(0, JANUARY, 1_000));
+    let answer = close(&mut ledger, JANUARY, [0; 4]);
+    assert_eq!(answer.reports[0].forfeit, 9);
+    // What was posted above the excess is not kept for March.
+    (ledger.month, ledger.day) = (3, 31);
+    accept(&mut ledger, &deliver(0, MARCH, 0, 0));
+    accept(&mut ledger, &usage(0, MARCH, 0));
+    let mut second = ledger.clone();
+    let answer = close(&mut ledger, MARCH, [0; 4]);
+    assert_eq!(answer.reports[0].forfeit, 0);
+    // March has its own posting.
+    accept(&mut second, &confiscated(0, MARCH, 4));
+    let answer = close(&mut second, MARCH, [0; 4]);
+    assert_eq!(answer.reports[0].forfeit, 4);
+    assert_eq!(second.accounts[0].bank, 4_062_821);
 }
 
 #[test]

@@ -6,7 +6,7 @@ use common::*;
 use referee::{panel, panel_line, write, Ledger};
 
 fn begun() -> Ledger {
-    let mut ledger = Ledger::fresh();
+    let mut ledger = Ledger::fresh(false);
     accept(&mut ledger, &terms(START, 0, 0));
     ledger
 }
@@ -150,8 +150,10 @@ fn case_9_measurement_day() {
 fn the_example_line() {
     for rate in [0, 1, 100_000] {
         let list = [terms(START, rate, rate), enrol(0, 2, START, 4_200, 1_000)].concat();
-        let mut archive = [0; 80];
-        assert_eq!(write(&list, &mut archive).length, 80);
-        assert_eq!(panel_line(&archive), "2 0 1000");
+        for is_new in [false, true] {
+            let mut archive = [0; 80];
+            assert_eq!(write(is_new, &list, &mut archive).length, 80);
+            assert_eq!(panel_line(&archive), "2 0 1000");
+        }
     }
 }

@@ -7,6 +7,9 @@ pub type Day = (u16, u8, u8);
 pub type Bytes = [u8; 32];
 
 pub const START: Day = (2026, 4, 1);
+/// The two days of CONFISCATED.
+pub const JANUARY: Day = (2026, 1, 31);
+pub const MARCH: Day = (2026, 3, 31);
 
 pub fn entry(kind: u8, a: u8, b: u8, flags: u8, day: Day, words: [u32; 6]) -> Bytes {
     let mut bytes = [0; 32];
@@ -65,6 +68,10 @@ pub fn close_month(day: Day, [w, h, l, e]: [u32; 4]) -> Bytes {
     entry(9, 0, 0, 0, day, [w, h, l, e, 0, 0])
 }
 
+pub fn confiscated(a: u8, day: Day, units: u32) -> Bytes {
+    entry(10, a, 0, 0, day, [units, 0, 0, 0, 0, 0])
+}
+
 /// Posts, and looks that a refusal moves nothing and reports nothing.
 pub fn post_checked(ledger: &mut Ledger, bytes: &[u8]) -> Answer {
     let before = ledger.clone();
@@ -92,7 +99,7 @@ pub fn accept(ledger: &mut Ledger, bytes: &[u8]) -> Answer {
 /// A ledger begun on that day with the marked terms, nothing touched, and
 /// account 0 as the marked case has it: k 2, MDDQ 1,500, BCQ 62,505.
 pub fn ledger_on(day: Day) -> Ledger {
-    let mut ledger = Ledger::fresh();
+    let mut ledger = Ledger::fresh(false);
     accept(&mut ledger, &terms(START, 0, 0));
     ledger.touched = false;
     ledger.year = day.0.into();
@@ -100,6 +107,11 @@ pub fn ledger_on(day: Day) -> Ledger {
     ledger.day = day.2.into();
     ledger.accounts[0] = marked_account();
     ledger
+}
+
+/// The same ledger, old or new.
+pub fn told(is_new: bool, ledger: Ledger) -> Ledger {
+    Ledger { is_new, ..ledger }
 }
 
 pub fn marked_account() -> Account {
@@ -167,6 +179,6 @@ impl Random {
 }
 
 /// The posting in bytes that pass numbers 1 to 7.
-pub fn decoded(bytes: &[u8]) -> Posting {
-    referee::Entry::decode(bytes).unwrap().posting
+pub fn decoded(is_new: bool, bytes: &[u8]) -> Posting {
+    referee::Entry::decode(is_new, bytes).unwrap().posting
 }
