@@ -137,8 +137,8 @@ fn write_into(
 ) -> Result<(usize, Vec<u8>), String> {
     let before = pattern(random, room);
     let (mut ours, mut theirs) = (before.clone(), before.clone());
-    let written = nedrulov::write(list, &mut ours);
-    let own = referee::write(list, &mut theirs);
+    let written = nedrulov::write(false, list, &mut ours);
+    let own = referee::write(false, list, &mut theirs);
     run.reached.write(written.number);
     let given = (written.number, written.index, written.length);
     same(

@@ -10,10 +10,10 @@ pub struct Both {
 }
 
 impl Both {
-    pub fn fresh() -> Both {
+    pub fn fresh(is_new: bool) -> Both {
         Both {
-            referee: Ledger::fresh(),
-            library: nedrulov::fresh(),
+            referee: Ledger::fresh(is_new),
+            library: nedrulov::fresh(is_new),
         }
     }
 
@@ -60,9 +60,12 @@ impl Both {
     }
 }
 
-/// Numbers 1 to 7 of any bytes as an entry.
+/// Numbers 1 to 7 of any bytes as an entry, old and new.
 pub fn entry_number(run: &mut Run, bytes: &[u8]) -> Same {
-    let number = nedrulov::entry_number(bytes);
-    run.reached.entry(number);
-    same("entry number", &number, &referee::entry_number(bytes))
+    for (is_new, what) in [(false, "entry number, old"), (true, "entry number, new")] {
+        let number = nedrulov::entry_number(is_new, bytes);
+        run.reached.entry(number);
+        same(what, &number, &referee::entry_number(is_new, bytes))?;
+    }
+    Ok(())
 }

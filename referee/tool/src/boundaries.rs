@@ -30,7 +30,7 @@ pub fn case(random: &mut Random, run: &mut Run) -> Same {
 
 /// A ledger begun on this date with the marked terms and account 0 of the marked case.
 pub fn marked(date: Date) -> Ledger {
-    let mut ledger = Ledger::fresh();
+    let mut ledger = Ledger::fresh(false);
     referee::post(&mut ledger, &entries::terms((2026, 4, 1), TERMS));
     ledger.touched = false;
     (ledger.year, ledger.month, ledger.day) = (date.year(), date.month().number(), date.day());

@@ -7,6 +7,7 @@ pub fn to_library(ledger: &referee::Ledger) -> library::Ledger {
     library::Ledger {
         begun: ledger.begun,
         touched: ledger.touched,
+        is_new: ledger.is_new,
         date: library::Date {
             year: ledger.year,
             month: ledger.month,
@@ -32,6 +33,8 @@ fn account_to_library(account: &referee::Account) -> library::Account {
             delivered: account.delivered,
             v1: account.v1,
             v2: account.v2,
+            confiscated: account.confiscated,
+            confiscation: account.confiscation,
         },
         bank: account.bank,
         mdq: account.mdq,
@@ -72,6 +75,7 @@ pub fn to_referee(ledger: &library::Ledger) -> referee::Ledger {
     referee::Ledger {
         begun: ledger.begun,
         touched: ledger.touched,
+        is_new: ledger.is_new,
         year: ledger.date.year,
         month: ledger.date.month,
         day: ledger.date.day,
@@ -109,11 +113,13 @@ fn account_to_referee(account: &library::Account) -> referee::Account {
         carry: account.carry,
         owed: account.owed,
         violation_days: account.violation_days,
+        confiscation: today.confiscation,
         delivered: today.delivered,
         measured: month.measured,
         metered: month.metered,
         v1: today.v1,
         v2: today.v2,
+        confiscated: today.confiscated,
         excused: account.excused,
     }
 }
@@ -139,8 +145,12 @@ mod tests {
 
     #[test]
     fn fresh_is_fresh() {
-        assert_eq!(to_library(&referee::Ledger::fresh()), library::fresh());
-        assert_eq!(to_referee(&library::fresh()), referee::Ledger::fresh());
+        for is_new in [false, true] {
+            let (own, ours) = (referee::Ledger::fresh(is_new), library::fresh(is_new));
+            assert_eq!(to_library(&own), ours);
+            assert_eq!(to_referee(&ours), own);
+            assert_eq!((own.is_new, ours.is_new), (is_new, is_new));
+        }
     }
 
     #[test]
@@ -155,32 +165,38 @@ mod tests {
     /// A different number in every field: none is lost, and none taken for another.
     #[test]
     fn no_two_numbers_are_swapped() {
-        let mut ledger = referee::Ledger::fresh();
+        let mut ledger = referee::Ledger::fresh(false);
         let a = &mut ledger.accounts[3];
         (a.bank, a.mdq, a.k, a.pending, a.over, a.under) = (901, 902, 903, 904, 905, 906);
         (a.mddq, a.bcq, a.net, a.sales, a.purchases) = (907, 908, 909, 910, 911);
         (a.cash_ins, a.cash_outs, a.usage) = (912, 913, 914);
-        (a.carry, a.owed, a.violation_days) = (915, 916, 917);
+        (a.carry, a.owed, a.violation_days, a.confiscation) = (915, 916, 917, 918);
         let there = format!("{:#?}", to_library(&ledger));
         let names = |text: &str| -> HashSet<String> {
             let lines = text.lines().map(|line| line.trim().to_string());
             lines.filter(|line| line.contains(": 9")).collect()
         };
-        assert_eq!(names(&there).len(), 17);
+        assert_eq!(names(&there).len(), 18);
         assert_eq!(names(&there), names(&format!("{ledger:#?}")));
+        assert_eq!(to_referee(&to_library(&ledger)), ledger);
     }
 
     #[test]
     fn marks_keep_their_names() {
-        for place in 0..6 {
-            let mut ledger = referee::Ledger::fresh();
+        for place in 0..11 {
+            let mut ledger = referee::Ledger::fresh(false);
             let a = &mut ledger.accounts[15];
             let marks = [
+                &mut ledger.begun,
+                &mut ledger.touched,
+                &mut ledger.is_new,
+                &mut a.opened,
                 &mut a.delivered,
                 &mut a.measured,
                 &mut a.metered,
                 &mut a.v1,
                 &mut a.v2,
+                &mut a.confiscated,
                 &mut a.excused,
             ];
             *marks.into_iter().nth(place).unwrap() = true;
@@ -191,6 +207,7 @@ mod tests {
                 lines.map(|line| line.trim().to_string()).collect()
             };
             assert_eq!(on(&text), on(&back));
+            assert_eq!(to_referee(&to_library(&ledger)), ledger);
         }
     }
 }

@@ -40,7 +40,7 @@ pub fn make(random: &mut Random, plan: Plan) -> Vec<Planned> {
     let mut maker = Maker {
         random,
         plan,
-        ledger: Ledger::fresh(),
+        ledger: Ledger::fresh(false),
         list: Vec::new(),
     };
     maker.begin((plan.first_year, 4, 1));
@@ -219,7 +219,7 @@ mod tests {
 
     fn holds(plan: Plan, seed: u64) -> (usize, usize) {
         let list = make(&mut Random::new(seed), plan);
-        let mut ledger = Ledger::fresh();
+        let mut ledger = Ledger::fresh(false);
         let mut refused = 0;
         for planned in &list {
             let number = referee::post(&mut ledger, &planned.bytes).number;

@@ -56,7 +56,7 @@ fn unsigned(account: &mut Account, place: usize) -> &mut u64 {
 
 /// A ledger in range with open accounts, most of them ready for their closing.
 pub fn ready_ledger(random: &mut Random, date: Date) -> Ledger {
-    let mut ledger = Ledger::fresh();
+    let mut ledger = Ledger::fresh(false);
     ledger.begun = true;
     ledger.touched = !random.one_in(4);
     (ledger.year, ledger.month, ledger.day) = (date.year(), date.month().number(), date.day());

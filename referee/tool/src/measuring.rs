@@ -17,7 +17,7 @@ pub fn one_year_of_days(random: &mut Random, run: &mut Run) -> Same {
         for day in 0..=32 {
             let Some(date) = Date::new(year.into(), month, day) else {
                 let bytes = entries::close_day((year, month as u8, day as u8));
-                Both::fresh().post(run, &bytes)?;
+                Both::fresh(false).post(run, &bytes)?;
                 continue;
             };
             one_day(run, date)?;
@@ -33,7 +33,7 @@ fn one_day(run: &mut Run, date: Date) -> Same {
         let account = &mut ledger.accounts[place];
         (account.delivered, account.metered) = (true, true);
     }
-    Both::fresh().post(run, &entries::terms(day, TERMS))?;
+    Both::fresh(false).post(run, &entries::terms(day, TERMS))?;
     for bytes in [
         entries::close_day(day),
         entries::close_month(day, [3_000; 4]),

@@ -16,7 +16,7 @@ pub fn case(random: &mut Random, run: &mut Run) -> Same {
             _ => {}
         }
         entry_number(run, &bytes)?;
-        Both::fresh().post(run, &bytes)?;
+        Both::fresh(false).post(run, &bytes)?;
         Both::of(&any_ledger(random)).post(run, &bytes)?;
         archives::write(random, run, &bytes)?;
         archives::read(random, run, &bytes)?;

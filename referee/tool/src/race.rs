@@ -1,4 +1,5 @@
-//! The command that races: the same entries through the library, the referee and accounting programs, by size.
+//! The command that races: the same entries through the library, the referee and accounting programs, by size. Ledgers
+//! and archives are old here, so that times go on to compare with earlier ones.
 
 use crate::accounting;
 use crate::convert;
@@ -69,7 +70,7 @@ fn track(suppliers: u8, years: usize) -> Track {
     let planned = make(&mut Random::new(1), plan);
     let list: Vec<u8> = planned.iter().flat_map(|planned| planned.bytes).collect();
     let mut archive = vec![0; 8 + 8 * plan.months + list.len()];
-    let written = nedrulov::write(&list, &mut archive);
+    let written = nedrulov::write(false, &list, &mut archive);
     assert_eq!((written.number, written.length), (0, archive.len()));
     Track {
         suppliers,
@@ -121,7 +122,7 @@ fn agree(track: &Track) {
 }
 
 fn by_value(list: &[u8]) -> (nedrulov::Ledger, usize) {
-    let mut ledger = nedrulov::fresh();
+    let mut ledger = nedrulov::fresh(false);
     let mut accepted = 0;
     for entry in list.chunks_exact(32) {
         let posted = nedrulov::post_by_value(ledger, black_box(entry));
@@ -132,7 +133,7 @@ fn by_value(list: &[u8]) -> (nedrulov::Ledger, usize) {
 }
 
 fn lent(list: &[u8]) -> (nedrulov::Ledger, usize) {
-    let mut ledger = nedrulov::fresh();
+    let mut ledger = nedrulov::fresh(false);
     let mut accepted = 0;
     for entry in list.chunks_exact(32) {
         let answer = nedrulov::post(&mut ledger, black_box(entry));
@@ -142,7 +143,7 @@ fn lent(list: &[u8]) -> (nedrulov::Ledger, usize) {
 }
 
 fn of_referee(list: &[u8]) -> (Ledger, usize) {
-    let mut ledger = Ledger::fresh();
+    let mut ledger = Ledger::fresh(false);
     let mut accepted = 0;
     for entry in list.chunks_exact(32) {
         let answer = referee::post(&mut ledger, black_box(entry));

@@ -37,8 +37,14 @@ impl Run {
 /// A ledger without its fresh accounts.
 fn short(ledger: &referee::Ledger) -> String {
     let head = format!(
-        "begun {} touched {} date {}-{}-{} {:?}",
-        ledger.begun, ledger.touched, ledger.year, ledger.month, ledger.day, ledger.terms
+        "new {} begun {} touched {} date {}-{}-{} {:?}",
+        ledger.is_new,
+        ledger.begun,
+        ledger.touched,
+        ledger.year,
+        ledger.month,
+        ledger.day,
+        ledger.terms
     );
     let fresh = referee::Account::default();
     let others = (0..).zip(&ledger.accounts);

@@ -15,7 +15,7 @@ pub fn case(random: &mut Random, run: &mut Run) -> Same {
         refusals: random.one_in(2),
     };
     let list = make(random, plan);
-    let mut both = Both::fresh();
+    let mut both = Both::fresh(false);
     let mut bytes = Vec::new();
     for planned in &list {
         let answer = both.post(run, &planned.bytes)?;
