@@ -1,37 +1,81 @@
 //! The archive functions of both, on the same bytes.
 
+use crate::confiscation::{self, KIND};
+use crate::events::age;
 use crate::random::Random;
+use crate::reached::Function;
 use crate::run::{same, Run, Same};
 use std::ops::Range;
 
-/// Reads any bytes as an archive: check, places, figures, year sheets.
+/// Reads any bytes as an archive: old or new, check, places, figures, year sheets.
 pub fn read(random: &mut Random, run: &mut Run, archive: &[u8]) -> Same {
     run.holds(None, archive);
+    let replay = referee::replay(archive);
+    let is_new = replay.ledger.is_new;
+    same("is_new", &nedrulov::is_new(archive), &is_new)?;
     let checked = nedrulov::check(archive);
-    run.reached.check(checked.number);
-    same(
-        "check",
-        &(checked.number, checked.index),
-        &referee::check(archive),
-    )?;
+    let given = (checked.number, checked.index);
+    same("check", &given, &referee::check(archive))?;
+    run.reached
+        .answered(Function::Check, is_new, checked.number);
+    count(run, archive, is_new, given);
     for section in sections_to_ask(random, archive) {
-        place(run, archive, section)?;
+        place(run, archive, is_new, section)?;
     }
-    figures(run, archive)?;
+    figures(run, archive, &replay)?;
     for year in years_to_ask(random, archive) {
         let sheet = nedrulov::year_sheet(archive, year);
-        run.reached.sheet(&sheet);
         same("year sheet", &sheet, &referee::year_sheet(archive, year))?;
+        let filled = sheet.iter().flatten().any(|&cell| cell != 0);
+        run.reached
+            .event("year sheet not all 0", age(is_new), filled);
     }
     Ok(())
 }
 
+/// Counts what the fourth byte decides.
+fn count(run: &mut Run, archive: &[u8], is_new: bool, (number, index): (u64, usize)) {
+    let kind_at = |index: usize| archive.get(entries_start(archive) + 32 * index);
+    let unknown = number == 2 && !is_new && kind_at(index) == Some(&KIND);
+    let known = number == 0 && is_new && confiscation::is_in(entries_of(archive));
+    let reached = &mut run.reached;
+    reached.event("kind 10 in an archive", "old, 2", unknown);
+    reached.event("kind 10 in an archive", "new, accepted", known);
+    let refused = number != 0 && is_new;
+    let short = archive.len() < 8;
+    let name = "refused, but opens as new";
+    reached.event(name, "4 to 7 bytes", refused && short);
+    reached.event(name, "longer", refused && !short);
+    if number == 8 && archive.starts_with(b"EFB") && !short {
+        let [old, new] = [49, 50].map(|fourth| {
+            let mut other = archive.to_vec();
+            other[3] = fourth;
+            referee::check(&other).0 == 0
+        });
+        let name = "8 by the fourth byte, else accepted";
+        reached.event(name, "old", old);
+        // One that could not be old.
+        reached.event(name, "new", new && !old);
+    }
+}
+
+/// The count of sections, as the header has it.
+fn sections(archive: &[u8]) -> usize {
+    let count = archive.get(4..6);
+    count.map_or(0, |n| usize::from(u16::from_le_bytes([n[0], n[1]])))
+}
+
+fn entries_start(archive: &[u8]) -> usize {
+    8 + 8 * sections(archive)
+}
+
+fn entries_of(archive: &[u8]) -> &[u8] {
+    archive.get(entries_start(archive)..).unwrap_or(&[])
+}
+
 /// All sections and one past, or a few of many.
 fn sections_to_ask(random: &mut Random, archive: &[u8]) -> Vec<usize> {
-    let count = match archive.get(4..6) {
-        Some(count) => usize::from(count[0]) + 256 * usize::from(count[1]),
-        None => 0,
-    };
+    let count = sections(archive);
     if count <= 16 {
         return (0..=count).chain([usize::MAX]).collect();
     }
@@ -39,9 +83,9 @@ fn sections_to_ask(random: &mut Random, archive: &[u8]) -> Vec<usize> {
     vec![0, 1, any, count - 1, count, count + 1, usize::MAX]
 }
 
-fn place(run: &mut Run, archive: &[u8], section: usize) -> Same {
+fn place(run: &mut Run, archive: &[u8], is_new: bool, section: usize) -> Same {
     let place = nedrulov::place(archive, section);
-    run.reached.place(place.number);
+    run.reached.answered(Function::Place, is_new, place.number);
     let own = referee::section(archive, section).map(|part| span(archive, part));
     // With any refusal the part is empty.
     let expected = match own {
@@ -65,10 +109,10 @@ fn span(archive: &[u8], part: &[u8]) -> Range<usize> {
     start..start + part.len()
 }
 
-fn figures(run: &mut Run, archive: &[u8]) -> Same {
+fn figures(run: &mut Run, archive: &[u8], replay: &referee::Replay) -> Same {
     let figures = nedrulov::figures(archive);
-    run.reached.figures(figures.number);
-    let replay = referee::replay(archive);
+    run.reached
+        .answered(Function::Figures, replay.ledger.is_new, figures.number);
     let panel = referee::panel(&replay.ledger);
     let given = (
         figures.number,
@@ -111,11 +155,16 @@ fn years_to_ask(random: &mut Random, archive: &[u8]) -> Vec<u64> {
 }
 
 /// Writes a list with both, with room exact, one short, one more and more; gives the archive, or nothing if refused.
-pub fn write(random: &mut Random, run: &mut Run, list: &[u8]) -> Result<Vec<u8>, String> {
+pub fn write(
+    random: &mut Random,
+    run: &mut Run,
+    is_new: bool,
+    list: &[u8],
+) -> Result<Vec<u8>, String> {
     run.holds(None, list);
     let sections = list.chunks(32).filter(|entry| entry[0] == 9).count() + 1;
     let roomy = list.len() + 8 + 8 * sections + 40;
-    let (length, archive) = write_into(random, run, list, roomy)?;
+    let (length, archive) = write_into(random, run, is_new, list, roomy)?;
     let rooms = [
         length,
         length.saturating_sub(1),
@@ -123,7 +172,7 @@ pub fn write(random: &mut Random, run: &mut Run, list: &[u8]) -> Result<Vec<u8>,
         random.below(length as u64 + 1) as usize,
     ];
     for room in rooms {
-        write_into(random, run, list, room)?;
+        write_into(random, run, is_new, list, room)?;
     }
     Ok(archive)
 }
@@ -132,20 +181,21 @@ pub fn write(random: &mut Random, run: &mut Run, list: &[u8]) -> Result<Vec<u8>,
 fn write_into(
     random: &mut Random,
     run: &mut Run,
+    is_new: bool,
     list: &[u8],
     room: usize,
 ) -> Result<(usize, Vec<u8>), String> {
     let before = pattern(random, room);
     let (mut ours, mut theirs) = (before.clone(), before.clone());
-    let written = nedrulov::write(false, list, &mut ours);
-    let own = referee::write(false, list, &mut theirs);
-    run.reached.write(written.number);
+    let written = nedrulov::write(is_new, list, &mut ours);
+    let own = referee::write(is_new, list, &mut theirs);
     let given = (written.number, written.index, written.length);
     same(
-        &format!("write to {room} bytes"),
+        &format!("write, {}, to {room} bytes", age(is_new)),
         &given,
         &(own.number, own.index, own.length),
     )?;
+    count_written(run, is_new, list, &own);
     if ours != theirs {
         return Err(format!("bytes written to {room} bytes differ"));
     }
@@ -155,6 +205,16 @@ fn write_into(
     }
     ours.truncate(own.length);
     Ok((own.length, ours))
+}
+
+fn count_written(run: &mut Run, is_new: bool, list: &[u8], written: &referee::Written) {
+    let (number, at) = (written.number, 32 * written.index);
+    run.reached.answered(Function::Write, is_new, number);
+    let unknown = number == 2 && !is_new && list.get(at) == Some(&KIND);
+    let known = number == 0 && is_new && confiscation::is_in(list);
+    let name = "kind 10 in a list to write";
+    run.reached.event(name, "old, 2", unknown);
+    run.reached.event(name, "new, accepted", known);
 }
 
 /// Bytes that are not likely to be written by chance.

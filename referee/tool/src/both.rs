@@ -1,6 +1,7 @@
 //! One ledger in both implementations, and a posting to both.
 
 use crate::convert;
+use crate::reached::Function;
 use crate::run::{same, Run, Same};
 use referee::{Answer, Ledger};
 
@@ -51,7 +52,7 @@ impl Both {
 
     fn panel(&self, run: &mut Run) -> Same {
         let panel = nedrulov::panel(self.library);
-        run.reached.panel(panel.number);
+        run.reached.panel(&self.referee, panel.number);
         same(
             "panel",
             &(panel.number, panel.figure),
@@ -64,7 +65,7 @@ impl Both {
 pub fn entry_number(run: &mut Run, bytes: &[u8]) -> Same {
     for (is_new, what) in [(false, "entry number, old"), (true, "entry number, new")] {
         let number = nedrulov::entry_number(is_new, bytes);
-        run.reached.entry(number);
+        run.reached.answered(Function::EntryNumber, is_new, number);
         same(what, &number, &referee::entry_number(is_new, bytes))?;
     }
     Ok(())

@@ -29,8 +29,8 @@ pub fn case(random: &mut Random, run: &mut Run) -> Same {
 }
 
 /// A ledger begun on this date with the marked terms and account 0 of the marked case.
-pub fn marked(date: Date) -> Ledger {
-    let mut ledger = Ledger::fresh(false);
+pub fn marked(is_new: bool, date: Date) -> Ledger {
+    let mut ledger = Ledger::fresh(is_new);
     referee::post(&mut ledger, &entries::terms((2026, 4, 1), TERMS));
     ledger.touched = false;
     (ledger.year, ledger.month, ledger.day) = (date.year(), date.month().number(), date.day());
@@ -103,7 +103,7 @@ const LARGE_WORDS: [u32; 7] = [
 /// Every word of every kind at the ends of all ranges, and every single byte changed.
 fn word_ends(random: &mut Random, run: &mut Run) -> Same {
     let date = Date::new(2026, 4, 1).expect("a date that exists");
-    let ledger = marked(date);
+    let ledger = marked(false, date);
     for example in examples(date) {
         for place in 0..6 {
             for &word in WORDS.iter().chain(&LARGE_WORDS) {
@@ -177,7 +177,7 @@ fn limits(random: &mut Random, run: &mut Run) -> Same {
 /// ENROL at the edges of who enters, with openings at 25 percent of the BCQ and beside.
 fn enrolments(random: &mut Random, run: &mut Run) -> Same {
     let date = Date::new(2000 + random.below(100), 4, 1).expect("a date that exists");
-    let mut ledger = marked(date);
+    let mut ledger = marked(false, date);
     ledger.terms = any_terms(random);
     let terms = ledger.terms;
     for mdq in [
@@ -199,7 +199,7 @@ fn enrolments(random: &mut Random, run: &mut Run) -> Same {
 /// Withdrawals at each share of the MDDQ, from banks at 10, 20 and 30 percent of the BCQ; injections at V1.
 fn shares(random: &mut Random, run: &mut Run) -> Same {
     let date = any_date(random);
-    let mut ledger = marked(date);
+    let mut ledger = marked(false, date);
     ledger.terms.retainage = random.pick(&[0, 1, 150, 9_999]);
     let account = &mut ledger.accounts[0];
     let beside = random.between(-1, 1);

@@ -18,11 +18,11 @@ pub fn case(random: &mut Random, run: &mut Run) -> Same {
         damaged(random, run, SAMPLE)?;
     }
     let list = short_list(random);
-    let archive = archives::write(random, run, &list)?;
+    let archive = archives::write(random, run, false, &list)?;
     damaged(random, run, &archive)?;
     let mut bytes = list;
     spoil_list(random, &mut bytes);
-    archives::write(random, run, &bytes)?;
+    archives::write(random, run, false, &bytes)?;
     Ok(())
 }
 
@@ -67,12 +67,12 @@ fn many_sections(random: &mut Random, run: &mut Run) -> Same {
         if random.one_in(2) {
             list.extend_from_slice(&entries::close_day((2026, 4, 30)));
         }
-        let archive = archives::write(random, run, &list)?;
+        let archive = archives::write(random, run, false, &list)?;
         archives::read(random, run, &archive)?;
         archives::read(random, run, &by_hand(&list, sections))?;
         if random.one_in(2) {
             spoil_list(random, &mut list);
-            archives::write(random, run, &list)?;
+            archives::write(random, run, false, &list)?;
         }
     }
     Ok(())

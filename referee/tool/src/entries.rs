@@ -68,6 +68,10 @@ pub fn close_month(day: Day, prices: [u32; 4]) -> Bytes {
     entry(9, [0, 0], 0, day, &prices)
 }
 
+pub fn confiscated(a: u8, day: Day, units: u32) -> Bytes {
+    entry(10, [a, 0], 0, day, &[units])
+}
+
 /// The closing that this date asks for.
 pub fn close(date: Date, prices: [u32; 4]) -> Bytes {
     if date.is_month_end() {

@@ -28,7 +28,7 @@ pub fn one_year_of_days(random: &mut Random, run: &mut Run) -> Same {
 
 fn one_day(run: &mut Run, date: Date) -> Same {
     let day = day_of(date);
-    let mut ledger = marked(date);
+    let mut ledger = marked(false, date);
     for place in [0, 15] {
         let account = &mut ledger.accounts[place];
         (account.delivered, account.metered) = (true, true);
@@ -65,7 +65,7 @@ pub fn steps(random: &mut Random, run: &mut Run) -> Same {
     for k in [1, 2, any, 99, 100] {
         let date = measurement_day(random);
         for (over, under) in (0..9).map(|runs| (runs / 3, runs % 3)) {
-            let mut ledger = marked(date);
+            let mut ledger = marked(false, date);
             let account = &mut ledger.accounts[0];
             (account.k, account.pending, account.over, account.under) = (k, k, over, under);
             for mdq in measurements(k as i64) {
@@ -79,7 +79,7 @@ pub fn steps(random: &mut Random, run: &mut Run) -> Same {
 
 /// Four months of nothing but measurements at the edges, with their closings.
 pub fn runs_of_three(random: &mut Random, run: &mut Run) -> Same {
-    let mut ledger = marked(Date::new(2026, 4, 1).expect("a date that exists"));
+    let mut ledger = marked(false, Date::new(2026, 4, 1).expect("a date that exists"));
     ledger.accounts[15] = Account::default();
     ledger.accounts[0].k = random.between(1, 6) as u64;
     let mut both = Both::of(&ledger);

@@ -18,7 +18,7 @@ pub fn case(random: &mut Random, run: &mut Run) -> Same {
         entry_number(run, &bytes)?;
         Both::fresh(false).post(run, &bytes)?;
         Both::of(&any_ledger(random)).post(run, &bytes)?;
-        archives::write(random, run, &bytes)?;
+        archives::write(random, run, false, &bytes)?;
         archives::read(random, run, &bytes)?;
     }
     Ok(())

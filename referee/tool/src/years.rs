@@ -27,6 +27,6 @@ pub fn case(random: &mut Random, run: &mut Run) -> Same {
         }
         bytes.extend_from_slice(&planned.bytes);
     }
-    let archive = archives::write(random, run, &bytes)?;
+    let archive = archives::write(random, run, false, &bytes)?;
     archives::read(random, run, &archive)
 }
