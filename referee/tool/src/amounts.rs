@@ -57,6 +57,21 @@ pub fn words(difference: i64, load: i64) -> (u32, u32) {
     ((back_cast + difference) as u32, back_cast as u32)
 }
 
+/// What CONFISCATED tells of an account with this excess: nothing at all, 0, or an amount beside the excess.
+pub fn confiscated(random: &mut Random, excess: u64) -> Option<u32> {
+    let units = match random.below(9) {
+        0 | 1 => return None,
+        2 => 0,
+        3 => random.below(excess + 1),
+        4 => excess.saturating_sub(1),
+        5 => excess,
+        6 => excess + 1,
+        7 => excess + random.below(excess + 1),
+        _ => 1_000_000_000,
+    };
+    Some(units.min(1_000_000_000) as u32)
+}
+
 /// Measurements on and next to every edge of a step.
 pub fn measurements(k: i64) -> [i64; 18] {
     let (top, bottom) = (3_000 * k, 3_000 * (k - 1));

@@ -45,6 +45,7 @@ fn short_list(random: &mut Random) -> Vec<u8> {
         first_year: 2000 + random.below(100) as u16,
         months: 1 + random.below(4) as usize,
         suppliers: 1 + random.below(2) as u8,
+        is_new: false,
         wild: true,
         refusals: true,
     };

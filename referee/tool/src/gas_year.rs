@@ -3,6 +3,7 @@
 //! The list is made against a referee's ledger, which tells the banks that the next posting has to fit.
 
 use crate::amounts;
+use crate::confiscation::{excesses, is_day};
 use crate::entries::{self, day_of, Bytes, Day};
 use crate::random::Random;
 use referee::{Account, Date, Ledger};
@@ -19,9 +20,11 @@ pub struct Plan {
     pub first_year: u16,
     pub months: usize,
     pub suppliers: u8,
+    /// Forfeits what was confiscated, not all excess.
+    pub is_new: bool,
     /// Overdrafts, overfull banks, thresholds, steps up and down, other terms.
     pub wild: bool,
-    /// Some trades and transfers one unit past their limit.
+    /// Some trades and transfers one unit past their limit, some CONFISCATED where there can be none.
     pub refusals: bool,
 }
 
@@ -40,7 +43,7 @@ pub fn make(random: &mut Random, plan: Plan) -> Vec<Planned> {
     let mut maker = Maker {
         random,
         plan,
-        ledger: Ledger::fresh(false),
+        ledger: Ledger::fresh(plan.is_new),
         list: Vec::new(),
     };
     maker.begin((plan.first_year, 4, 1));
@@ -120,6 +123,7 @@ impl Maker<'_> {
             let words = self.terms();
             self.push(entries::terms(day, words), true);
         }
+        self.confiscate_early(date);
         for account in 0..self.plan.suppliers {
             self.deliver(account, date);
         }
@@ -140,7 +144,50 @@ impl Maker<'_> {
             }
         }
         let prices = [0; 4].map(|_: u32| 2_000 + self.random.below(3_000) as u32);
-        self.push(entries::close(date, prices), date.tomorrow().is_some());
+        let closing = entries::close(date, prices);
+        self.confiscate(date, &closing);
+        self.confiscate_in_vain(date);
+        self.push(closing, date.tomorrow().is_some());
+    }
+
+    /// CONFISCATED before the day's deliveries, when nobody can know the excess.
+    fn confiscate_early(&mut self, date: Date) {
+        for account in 0..self.plan.suppliers {
+            if self.plan.is_new && is_day(date) && self.random.one_in(6) {
+                let most = 20 * self.account(account).bcq;
+                let units = self.random.below(most + 1) as u32;
+                self.push(entries::confiscated(account, day_of(date), units), true);
+            }
+        }
+    }
+
+    /// CONFISCATED at the excess and beside it for some, none for others.
+    fn confiscate(&mut self, date: Date, closing: &Bytes) {
+        if !self.plan.is_new || !is_day(date) {
+            return;
+        }
+        let excesses = excesses(&self.ledger, closing);
+        for (account, excess) in (0..self.plan.suppliers).zip(excesses) {
+            let units = amounts::confiscated(self.random, excess);
+            if let Some(units) = units.filter(|_| !self.account(account).confiscated) {
+                self.push(entries::confiscated(account, day_of(date), units), true);
+            }
+        }
+    }
+
+    /// CONFISCATED in an old ledger, on another day, of an account not open, or a second one.
+    fn confiscate_in_vain(&mut self, date: Date) {
+        let (tries, chance) = if is_day(date) { (4, 2) } else { (1, 60) };
+        for _ in 0..tries {
+            let place = self.random.below(16) as u8;
+            let account = self.account(place);
+            let fits = self.plan.is_new && is_day(date);
+            let would_pass = fits && account.opened && !account.confiscated;
+            if self.plan.refusals && !would_pass && self.random.one_in(chance) {
+                let units = self.random.below(1_000_001) as u32;
+                self.push(entries::confiscated(place, day_of(date), units), false);
+            }
+        }
     }
 
     fn account(&self, account: u8) -> &Account {
@@ -216,33 +263,49 @@ impl Maker<'_> {
 #[cfg(test)]
 mod tests {
     use super::*;
+    use crate::confiscation::KIND;
+    use std::collections::BTreeMap;
 
-    fn holds(plan: Plan, seed: u64) -> (usize, usize) {
-        let list = make(&mut Random::new(seed), plan);
-        let mut ledger = Ledger::fresh(false);
-        let mut refused = 0;
-        for planned in &list {
+    const CALM: Plan = Plan {
+        first_year: 2023,
+        months: 12,
+        suppliers: 4,
+        is_new: false,
+        wild: false,
+        refusals: false,
+    };
+
+    /// The numbers that CONFISCATED gets, and all others, each with how often.
+    fn holds(plan: Plan, seed: u64) -> [BTreeMap<u64, usize>; 2] {
+        let mut ledger = Ledger::fresh(plan.is_new);
+        let mut numbers = [BTreeMap::new(), BTreeMap::new()];
+        for planned in make(&mut Random::new(seed), plan) {
             let number = referee::post(&mut ledger, &planned.bytes).number;
             assert_eq!(number == 0, planned.valid, "{number} {:?}", planned.bytes);
-            refused += usize::from(number != 0);
+            let place = usize::from(planned.bytes[0] != KIND);
+            *numbers[place].entry(number).or_default() += 1;
         }
-        (list.len(), refused)
+        numbers
+    }
+
+    fn refused(numbers: &BTreeMap<u64, usize>) -> usize {
+        let refused = numbers.iter().filter(|(number, _)| **number != 0);
+        refused.map(|(_, count)| count).sum()
     }
 
     #[test]
     fn a_calm_year_is_accepted() {
+        let mut confiscated = 0;
         for seed in 0..20 {
-            let plan = Plan {
-                first_year: 2023,
-                months: 12,
-                suppliers: 4,
-                wild: false,
-                refusals: false,
-            };
-            let (entries, refused) = holds(plan, seed);
-            assert!(entries > 366 * 5);
-            assert_eq!(refused, 0);
+            let is_new = seed % 2 == 0;
+            let [own, others] = holds(Plan { is_new, ..CALM }, seed);
+            assert!(others[&0] > 366 * 5);
+            assert_eq!(refused(&others) + refused(&own), 0);
+            let accepted = own.get(&0).copied().unwrap_or(0);
+            assert!(is_new || accepted == 0);
+            confiscated += accepted;
         }
+        assert!(confiscated > 20);
     }
 
     #[test]
@@ -251,28 +314,72 @@ mod tests {
         for seed in 0..60 {
             let plan = Plan {
                 first_year: 2000 + seed as u16,
-                months: 12,
                 suppliers: 1 + (seed % 16) as u8,
+                is_new: seed % 3 == 0,
                 wild: true,
                 refusals: seed % 2 == 0,
+                ..CALM
             };
-            let (_, refused) = holds(plan, seed);
-            assert!(plan.refusals || refused == 0);
-            meant += refused;
+            let [own, others] = holds(plan, seed);
+            assert!(plan.refusals || refused(&own) + refused(&others) == 0);
+            meant += refused(&others);
         }
         assert!(meant > 0);
+    }
+
+    /// An old ledger answers 2 alone; a new one accepts, and refuses by 23, 24 and 26.
+    #[test]
+    fn confiscated_is_refused_where_it_is_meant() {
+        for is_new in [false, true] {
+            let mut met = BTreeMap::new();
+            for seed in 0..20 {
+                let plan = Plan {
+                    is_new,
+                    refusals: true,
+                    ..CALM
+                };
+                let [own, _] = holds(plan, seed);
+                met.extend(own);
+            }
+            let numbers: Vec<u64> = met.into_keys().collect();
+            let meant: &[u64] = if is_new { &[0, 23, 24, 26] } else { &[2] };
+            assert_eq!(numbers, meant);
+        }
+    }
+
+    /// The amounts of a few years lie on all sides of the excess, and at it.
+    #[test]
+    fn amounts_lie_around_the_excess() {
+        let mut sides = BTreeMap::new();
+        for seed in 0..20 {
+            let plan = Plan {
+                is_new: true,
+                ..CALM
+            };
+            let mut ledger = Ledger::fresh(true);
+            for planned in make(&mut Random::new(seed), plan) {
+                if planned.bytes[0] == 9 && ledger.date().is_some_and(is_day) {
+                    let all = excesses(&ledger, &planned.bytes);
+                    for (account, excess) in ledger.accounts[..4].iter().zip(all) {
+                        let side = account.confiscation.cmp(&excess);
+                        *sides.entry((ledger.month, side)).or_insert(0) += 1;
+                    }
+                }
+                referee::post(&mut ledger, &planned.bytes);
+            }
+        }
+        assert_eq!(sides.len(), 6, "{sides:?}");
     }
 
     #[test]
     fn the_last_year_ends_with_a_refusal() {
         let plan = Plan {
             first_year: 2099,
-            months: 12,
             suppliers: 2,
             wild: true,
-            refusals: false,
+            ..CALM
         };
-        let (_, refused) = holds(plan, 7);
-        assert_eq!(refused, 1);
+        let [own, others] = holds(plan, 7);
+        assert_eq!((refused(&own), refused(&others)), (0, 1));
     }
 }

@@ -64,6 +64,7 @@ fn track(suppliers: u8, years: usize) -> Track {
         first_year: 2026,
         months: 12 * years,
         suppliers,
+        is_new: false,
         wild: false,
         refusals: false,
     };
