@@ -3,6 +3,7 @@
 use crate::amounts::{before_retainage, special, v1_times, words};
 use crate::both::Both;
 use crate::entries::{self, day_of, set_word, Bytes};
+use crate::forfeits::{confiscations, forfeits};
 use crate::gas_year::TERMS;
 use crate::ledgers::{any_date, any_terms, ready_account, ready_ledger};
 use crate::measuring::{one_year_of_days, runs_of_three, steps};
@@ -14,6 +15,7 @@ pub fn case(random: &mut Random, run: &mut Run) -> Same {
     if random.one_in(4) {
         word_ends(random, run)?;
     }
+    confiscations(random, run)?;
     one_year_of_days(random, run)?;
     steps(random, run)?;
     runs_of_three(random, run)?;
@@ -24,11 +26,12 @@ pub fn case(random: &mut Random, run: &mut Run) -> Same {
         limits(random, run)?;
         enrolments(random, run)?;
         shares(random, run)?;
+        forfeits(random, run)?;
     }
     Ok(())
 }
 
-/// A ledger begun on this date with the marked terms and account 0 of the marked case.
+/// A ledger begun on this date with the marked terms and account 0 of the marked case, and 15 like it.
 pub fn marked(is_new: bool, date: Date) -> Ledger {
     let mut ledger = Ledger::fresh(is_new);
     referee::post(&mut ledger, &entries::terms((2026, 4, 1), TERMS));
@@ -48,7 +51,7 @@ pub fn marked(is_new: bool, date: Date) -> Ledger {
 }
 
 /// One valid entry of each kind.
-fn examples(date: Date) -> [Bytes; 9] {
+fn examples(date: Date) -> [Bytes; 10] {
     let day = day_of(date);
     [
         entries::terms(day, TERMS),
@@ -60,6 +63,7 @@ fn examples(date: Date) -> [Bytes; 9] {
         entries::usage(0, day, 77),
         entries::close_day(day),
         entries::close_month(day, [3_000, 3_100, 2_900, 50]),
+        entries::confiscated(0, day, 1_000),
     ]
 }
 
@@ -102,8 +106,9 @@ const LARGE_WORDS: [u32; 7] = [
 
 /// Every word of every kind at the ends of all ranges, and every single byte changed.
 fn word_ends(random: &mut Random, run: &mut Run) -> Same {
-    let date = Date::new(2026, 4, 1).expect("a date that exists");
-    let ledger = marked(false, date);
+    let (month, day) = random.pick(&[(4, 1), (1, 31), (3, 31)]);
+    let date = Date::new(2026, month, day).expect("a date that exists");
+    let ledger = marked(random.one_in(2), date);
     for example in examples(date) {
         for place in 0..6 {
             for &word in WORDS.iter().chain(&LARGE_WORDS) {
@@ -120,7 +125,7 @@ fn word_ends(random: &mut Random, run: &mut Run) -> Same {
             let mut bytes = example;
             let at = random.below(32) as usize;
             bytes[at] = random.pick(&[
-                0, 1, 2, 3, 4, 8, 9, 10, 12, 13, 15, 16, 30, 31, 32, 128, 255,
+                0, 1, 2, 3, 4, 8, 9, 10, 11, 12, 13, 15, 16, 30, 31, 32, 128, 255,
             ]);
             Both::of(&ledger).post(run, &bytes)?;
         }
@@ -177,9 +182,12 @@ fn limits(random: &mut Random, run: &mut Run) -> Same {
 /// ENROL at the edges of who enters, with openings at 25 percent of the BCQ and beside.
 fn enrolments(random: &mut Random, run: &mut Run) -> Same {
     let date = Date::new(2000 + random.below(100), 4, 1).expect("a date that exists");
-    let mut ledger = marked(false, date);
+    let mut ledger = marked(random.one_in(2), date);
     ledger.terms = any_terms(random);
     let terms = ledger.terms;
+    // What an account not open holds is forgotten.
+    ledger.accounts[3].confiscation = random.pick(&[0, 1, 1_000_000_000]);
+    ledger.accounts[3].confiscated = random.one_in(2);
     for mdq in [
         0, 999, 1_000, 1_001, 3_000, 3_001, 4_200, 5_999, 6_000, 6_001, 299_999, 300_000,
     ] {
@@ -199,7 +207,7 @@ fn enrolments(random: &mut Random, run: &mut Run) -> Same {
 /// Withdrawals at each share of the MDDQ, from banks at 10, 20 and 30 percent of the BCQ; injections at V1.
 fn shares(random: &mut Random, run: &mut Run) -> Same {
     let date = any_date(random);
-    let mut ledger = marked(false, date);
+    let mut ledger = marked(random.one_in(2), date);
     ledger.terms.retainage = random.pick(&[0, 1, 150, 9_999]);
     let account = &mut ledger.accounts[0];
     let beside = random.between(-1, 1);

@@ -12,6 +12,7 @@ mod damage;
 mod edits;
 mod entries;
 mod events;
+mod forfeits;
 mod gas_year;
 mod hostile;
 mod ledgers;

@@ -9,31 +9,32 @@ use crate::random::Random;
 use crate::run::{Run, Same};
 use referee::{Account, Date};
 
-/// Every day of a year, and days that do not exist: measured, closed by either kind, begun.
+/// Every day of a year, and days that do not exist: measured, confiscated, closed by either kind, begun.
 pub fn one_year_of_days(random: &mut Random, run: &mut Run) -> Same {
     // Seeds in a row go through all years.
     let year = 1_999 + (random.seed % 102) as u16;
+    let is_new = random.one_in(2);
     for month in 0..=13 {
         for day in 0..=32 {
             let Some(date) = Date::new(year.into(), month, day) else {
                 let bytes = entries::close_day((year, month as u8, day as u8));
-                Both::fresh(false).post(run, &bytes)?;
+                Both::fresh(is_new).post(run, &bytes)?;
                 continue;
             };
-            one_day(run, date)?;
+            one_day(run, is_new, date)?;
         }
     }
     Ok(())
 }
 
-fn one_day(run: &mut Run, date: Date) -> Same {
+fn one_day(run: &mut Run, is_new: bool, date: Date) -> Same {
     let day = day_of(date);
-    let mut ledger = marked(false, date);
+    let mut ledger = marked(is_new, date);
     for place in [0, 15] {
         let account = &mut ledger.accounts[place];
         (account.delivered, account.metered) = (true, true);
     }
-    Both::fresh(false).post(run, &entries::terms(day, TERMS))?;
+    Both::fresh(is_new).post(run, &entries::terms(day, TERMS))?;
     for bytes in [
         entries::close_day(day),
         entries::close_month(day, [3_000; 4]),
@@ -48,6 +49,7 @@ fn one_day(run: &mut Run, date: Date) -> Same {
         }
     }
     Both::of(&ledger).post(run, &entries::measure(0, day, 4_200))?;
+    Both::of(&ledger).post(run, &entries::confiscated(0, day, 77))?;
     Ok(())
 }
 
@@ -65,7 +67,7 @@ pub fn steps(random: &mut Random, run: &mut Run) -> Same {
     for k in [1, 2, any, 99, 100] {
         let date = measurement_day(random);
         for (over, under) in (0..9).map(|runs| (runs / 3, runs % 3)) {
-            let mut ledger = marked(false, date);
+            let mut ledger = marked(random.one_in(2), date);
             let account = &mut ledger.accounts[0];
             (account.k, account.pending, account.over, account.under) = (k, k, over, under);
             for mdq in measurements(k as i64) {
@@ -79,7 +81,8 @@ pub fn steps(random: &mut Random, run: &mut Run) -> Same {
 
 /// Four months of nothing but measurements at the edges, with their closings.
 pub fn runs_of_three(random: &mut Random, run: &mut Run) -> Same {
-    let mut ledger = marked(false, Date::new(2026, 4, 1).expect("a date that exists"));
+    let first = Date::new(2026, 4, 1).expect("a date that exists");
+    let mut ledger = marked(random.one_in(2), first);
     ledger.accounts[15] = Account::default();
     ledger.accounts[0].k = random.between(1, 6) as u64;
     let mut both = Both::of(&ledger);
