@@ -63,6 +63,8 @@ fn aimed(random: &mut Random, ledger: &Ledger) -> Vec<Bytes> {
         entries::usage(a, day, random.pick(&[0, 1, 99_999_999, 100_000_000])),
         entries::close_day(day),
         entries::close_month(day, prices),
+        entries::confiscated(a, day, units),
+        entries::confiscated(b, day, random.pick(&[0, 1, 999_999_999])),
     ]
 }
 

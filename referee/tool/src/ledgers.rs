@@ -5,7 +5,7 @@ use crate::random::Random;
 use referee::{Account, Date, Ledger, Terms};
 
 /// The ranges of an account's numbers, in the order of `number_of`.
-pub const RANGES: [(i64, i64); 17] = [
+pub const RANGES: [(i64, i64); 18] = [
     (-1_000_000_000, 100_000_000_000),
     (-100_000_000_000, 100_000_000_000),
     (-1_000_000_000_000_000, 1_000_000_000_000_000),
@@ -23,6 +23,7 @@ pub const RANGES: [(i64, i64); 17] = [
     (0, 100_000_000_000),
     (0, 100_000_000),
     (0, 40_000),
+    (0, 1_000_000_000),
 ];
 
 /// Sets a number of an account; -1 is the largest number where the type has no sign.
@@ -50,13 +51,14 @@ fn unsigned(account: &mut Account, place: usize) -> &mut u64 {
         13 => &mut account.cash_outs,
         14 => &mut account.carry,
         15 => &mut account.usage,
-        _ => &mut account.violation_days,
+        16 => &mut account.violation_days,
+        _ => &mut account.confiscation,
     }
 }
 
-/// A ledger in range with open accounts, most of them ready for their closing.
+/// A ledger in range, old or new, with open accounts, most of them ready for their closing.
 pub fn ready_ledger(random: &mut Random, date: Date) -> Ledger {
-    let mut ledger = Ledger::fresh(false);
+    let mut ledger = Ledger::fresh(random.one_in(2));
     ledger.begun = true;
     ledger.touched = !random.one_in(4);
     (ledger.year, ledger.month, ledger.day) = (date.year(), date.month().number(), date.day());
@@ -113,7 +115,17 @@ pub fn ready_account(random: &mut Random, date: Date) -> Account {
         } else {
             near(random, &[1, 10, 20, 30, 40]).max(0) as u64
         },
+        confiscation: recorded(random, bank),
         ..marked_account(random)
+    }
+}
+
+/// An amount of confiscated gas, on any side of what the bank may lose. Its mark is another matter.
+fn recorded(random: &mut Random, bank: i64) -> u64 {
+    match random.below(4) {
+        0 | 1 => 0,
+        2 => random.pick(&[1, 999, 1_000_000, 999_999_999, 1_000_000_000]),
+        _ => random.between(0, bank.clamp(0, 1_000_000_000)) as u64,
     }
 }
 
@@ -134,6 +146,7 @@ fn marked_account(random: &mut Random) -> Account {
         metered: !random.one_in(8),
         v1: random.one_in(3),
         v2: random.one_in(3),
+        confiscated: random.one_in(3),
         excused: random.one_in(3),
         ..Account::default()
     }
@@ -197,7 +210,7 @@ pub fn any_day(random: &mut Random) -> Day {
         2000 + random.below(100) as u16
     };
     let days = [1, 1, 24, 25, 26, 27, 28, 29, 30, 30, 31, 31];
-    match random.below(8) {
+    match random.below(9) {
         0 | 1 => (year, 4, 1),
         2 => random.pick(&[
             (2099, 12, 31),
@@ -208,6 +221,7 @@ pub fn any_day(random: &mut Random) -> Day {
         ]),
         3 => (year, random.pick(&[1, 3, 6, 8]), random.pick(&[30, 31])),
         4 => (year, 1 + random.below(12) as u8, 1 + random.below(31) as u8),
+        5 => (year, random.pick(&[1, 3]), 31),
         _ => (year, 1 + random.below(12) as u8, random.pick(&days)),
     }
 }
