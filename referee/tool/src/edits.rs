@@ -15,7 +15,8 @@ pub fn spoil_entry(random: &mut Random, bytes: &mut [u8], start: usize) {
     } else {
         random.below(8)
     };
-    bytes[entry + at as usize] = random.pick(&[0, 1, 2, 3, 4, 8, 9, 10, 13, 16, 31, 32, 200, 255]);
+    bytes[entry + at as usize] =
+        random.pick(&[0, 1, 2, 3, 4, 8, 9, 10, 11, 13, 16, 31, 32, 200, 255]);
     if random.one_in(4) {
         // A transfer to itself or of unlike words: number 7.
         let day = (2026, 4, 30);

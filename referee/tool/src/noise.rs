@@ -16,9 +16,10 @@ pub fn case(random: &mut Random, run: &mut Run) -> Same {
             _ => {}
         }
         entry_number(run, &bytes)?;
-        Both::fresh(false).post(run, &bytes)?;
+        Both::fresh(random.one_in(2)).post(run, &bytes)?;
         Both::of(&any_ledger(random)).post(run, &bytes)?;
-        archives::write(random, run, false, &bytes)?;
+        let is_new = random.one_in(2);
+        archives::write(random, run, is_new, &bytes)?;
         archives::read(random, run, &bytes)?;
     }
     Ok(())
@@ -35,14 +36,15 @@ fn length(random: &mut Random) -> usize {
     }
 }
 
-/// Opening bytes, a small count and two zeros; for some a first pair that fits.
+/// Opening bytes, a small count and two zeros, as far as there is room; for some a first pair that fits.
 fn header(random: &mut Random, bytes: &mut [u8]) {
     let length = bytes.len();
-    if length < 8 {
-        return;
-    }
     let count = random.below(3) as u8;
-    bytes[..8].copy_from_slice(&[69, 70, 66, 49, count, 0, 0, 0]);
+    let any = random.next() as u8;
+    let fourth = random.pick(&[48, 49, 49, 49, 50, 50, 50, 51, any]);
+    let opening = [69, 70, 66, fourth, count, 0, 0, 0];
+    let room = length.min(8);
+    bytes[..room].copy_from_slice(&opening[..room]);
     if count == 1 && length >= 16 {
         bytes[8..12].copy_from_slice(&16u32.to_le_bytes());
         bytes[12..16].copy_from_slice(&(length as u32 - 16).to_le_bytes());
@@ -53,7 +55,7 @@ fn header(random: &mut Random, bytes: &mut [u8]) {
 fn small_numbers(random: &mut Random, bytes: &mut [u8]) {
     for (at, byte) in bytes.iter_mut().enumerate() {
         *byte = match at % 32 {
-            0 => 1 + random.below(10) as u8,
+            0 => 1 + random.below(11) as u8,
             4 => 206 + random.below(50) as u8,
             5 => 7,
             6 => 1 + random.below(13) as u8,
