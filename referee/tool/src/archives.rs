@@ -197,7 +197,10 @@ fn write_into(
     )?;
     count_written(run, is_new, list, &own);
     if ours != theirs {
-        return Err(format!("bytes written to {room} bytes differ"));
+        return Err(format!(
+            "bytes written, {}, to {room} bytes differ",
+            age(is_new)
+        ));
     }
     // A refusal has length 0, so that all bytes must stay.
     if ours[own.length..] != before[own.length..] {

@@ -177,13 +177,17 @@ impl Maker<'_> {
 
     /// CONFISCATED in an old ledger, on another day, of an account not open, or a second one.
     fn confiscate_in_vain(&mut self, date: Date) {
+        // No draw at all, so that a race's list is the same as it was before this kind.
+        if !self.plan.refusals {
+            return;
+        }
         let (tries, chance) = if is_day(date) { (4, 2) } else { (1, 60) };
         for _ in 0..tries {
             let place = self.random.below(16) as u8;
             let account = self.account(place);
             let fits = self.plan.is_new && is_day(date);
             let would_pass = fits && account.opened && !account.confiscated;
-            if self.plan.refusals && !would_pass && self.random.one_in(chance) {
+            if !would_pass && self.random.one_in(chance) {
                 let units = self.random.below(1_000_001) as u32;
                 self.push(entries::confiscated(place, day_of(date), units), false);
             }
@@ -369,6 +373,20 @@ mod tests {
             }
         }
         assert_eq!(sides.len(), 6, "{sides:?}");
+    }
+
+    /// The lists that the race has always run: its times compare with earlier ones.
+    #[test]
+    fn a_race_runs_the_same_list() {
+        for (suppliers, years, entries) in [(4, 1, 2_202), (16, 1, 6_909), (4, 10, 22_237)] {
+            let plan = Plan {
+                first_year: 2026,
+                months: 12 * years,
+                suppliers,
+                ..CALM
+            };
+            assert_eq!(make(&mut Random::new(1), plan).len(), entries);
+        }
     }
 
     #[test]
