@@ -4,7 +4,7 @@ use native.Mathlib.Nat.{zero-add}
 use Prim.Native.Nat.{ℕ, zero, suc, _+_, _*_, _-_, _/_, _%_, _<_, _≤_}
 use mathlib.Core.Path.{_≡_, refl, sym, ap, _∙_}
 use mathlib.Core.List.{List, [], _∷_, _++_}
-use lib.ListN.{length, take, drop, length-drop, length-append}
+use lib.ListN.{length, getD, take, drop, length-take, length-drop, length-append}
 use lib.Seq.{drop-drop, take-append-le, drop-append-le, take-add, take-all}
 use Rattle.archive.specs.Entries.{firstEntries, entriesOf}
 use Rattle.archive.specs.Layout.{concatenated}
@@ -41,6 +41,13 @@ drop-entries (suc k) (suc n) s h =
     let m : suc n - suc k ≡ n - k = omega arith in
     let j : 32 * suc k ≡ 32 + 32 * k = omega arith in
     rw (m, j) (drop-entries k n (drop 32 s) (omega arith) ∙ ap (firstEntries (n - k)) (drop-drop (32 * k) 32 s))
+
+-- each entry is whole
+pub entry-whole : (n k : ℕ) (s : List ℕ) → k < n → 32 * n ≤ length s → length (getD (firstEntries n s) k []) ≡ 32
+unfolding firstEntries
+entry-whole zero k s h w = absurd (omega arith)
+entry-whole (suc n) zero s h w = simp length-take (omega arith)
+entry-whole (suc n) (suc k) s h w = entry-whole n k (drop 32 s) (omega arith) (simp length-drop (omega arith))
 
 -- the bytes of the first n entries
 pub together-entries : (n : ℕ) (s : List ℕ) → concatenated (firstEntries n s) ≡ take (32 * n) s

@@ -12,7 +12,7 @@ use Rattle.archive.proofs.EntryLists.{entries-next, length-entries}
 use Rattle.archive.proofs.Findings.{last-one, refusal-past, refusal-within}
 use Rattle.archive.proofs.Pairs.{pairs-next, length-pairs}
 
-length-numbers : (new final : Bool) (es : List (List ℕ)) → length (numbersIn new final es) ≡ length es
+pub length-numbers : (new final : Bool) (es : List (List ℕ)) → length (numbersIn new final es) ≡ length es
 unfolding numbersIn
 length-numbers new final [] = refl
 length-numbers new final (e ∷ es) = ap suc (length-numbers new final es)

@@ -115,7 +115,7 @@ section-first new e (f ∷ es) fs ss q h =
     let k : closesMonth e ≡ false = within-other (eqb (length ss) 0) e (number-parts new false (eqb (length ss) 0) e (rw (eqb·suc-zero (length es)) at (h .0)) .1) in
     rw k (ap (joined e) (section-first new f es fs ss q (h .1)))
 
-no-entries : entriesOf [] ≡ []
+pub no-entries : entriesOf [] ≡ []
 unfolding entriesOf firstEntries
 no-entries = refl
 

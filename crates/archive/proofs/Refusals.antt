@@ -1,10 +1,12 @@
 -- A list of numbers has no refusal where all of them are 0, and only there: the first that is not 0 would be it.
-use borrow.Author.Tests.{eqb-true, eqb-false}
-use Prim.Native.Nat.{ℕ, _+_}
-use mathlib.Core.Path.{_≡_, refl}
+use borrow.Author.Tests.{eqb-true, eqb-false, ne-eqb}
+use native.Mathlib.Omega.{arith}
+use Prim.Native.Nat.{ℕ, zero, suc, _+_, _<_}
+use mathlib.Core.Path.{_≡_, refl, sym, _∙_}
 use mathlib.Core.Bool.{Bool, true, false, cond}
 use mathlib.Core.List.{List, [], _∷_, _++_}
 use lib.Dec.{eqb}
+use lib.ListN.{getD}
 use Rattle.archive.specs.Entries.{finding, firstRefusal}
 use Rattle.archive.specs.Structs.{Checked}
 
@@ -35,6 +37,19 @@ first-zero : (n i : ℕ) (rest : Checked) (b : Bool) → eqb n 0 ≡ b → cond 
 unfolding finding
 first-zero n i rest true e h = (eqb-true n 0 e, h)
 first-zero n i rest false e h = absurd (eqb-false n 0 e h)
+
+-- the first that is not 0, with its index
+pub first-found : (i k : ℕ) (ns : List ℕ) (n : ℕ) → ((j : ℕ) → j < k → getD ns j 0 ≡ 0) → getD ns k 0 ≡ n → (n ≡ 0 → ⊥) → firstRefusal i ns ≡ finding n (i + k)
+unfolding firstRefusal
+first-found i k [] n h e d = absurd (d (sym e))
+first-found i zero (m ∷ ns) n h e d = let z : i + 0 ≡ i = omega arith in rw (ne-eqb m 0 (λ y. d (sym e ∙ y)), e, z)
+first-found i (suc k) (m ∷ ns) n h e d =
+    let j : i + suc k ≡ i + 1 + k = omega arith in rw (h 0 (omega arith), j) (first-found (i + 1) k ns n (λ j q. h (suc j) (omega arith)) e d)
+
+pub zero-at : (ns : List ℕ) (k : ℕ) → Zeros ns → getD ns k 0 ≡ 0
+zero-at [] k h = refl
+zero-at (n ∷ ns) zero h = h .0
+zero-at (n ∷ ns) (suc k) h = zero-at ns k (h .1)
 
 pub all-zero : (i : ℕ) (ns : List ℕ) → firstRefusal i ns .number ≡ 0 → Zeros ns
 unfolding firstRefusal

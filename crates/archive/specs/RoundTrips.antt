@@ -1,11 +1,9 @@
 -- There is one archive for each list, and one list in each archive.
-use Rattle.tariff.specs.Vocabulary.{ℕ, _<_, _≤_, Bool, true, false, eqb, List, [], length, getD, _≡_}
-use Rattle.ledger.specs.Entries.{entryOf}
-use Rattle.ledger.specs.OldAndNew.{isOldKind}
+use Rattle.tariff.specs.Vocabulary.{ℕ, _<_, _≤_, Bool, List, [], length, getD, _≡_}
 use Rattle.archive.specs.Entries.{entriesOf, finding}
 use Rattle.archive.specs.Layout.{mostBytes, sectionsOf, concatenated, archiveOf}
 use Rattle.archive.specs.Writing.{written}
-use Rattle.archive.specs.Reading.{sectionCount, isNew, numberIn, checked, sectionAt, listOf}
+use Rattle.archive.specs.Reading.{sectionCount, isNew, checked, sectionAt, listOf}
 
 -- R76: numbers that memory holds as bytes.
 abbrev pub Bytes : List ℕ → Type 0
@@ -33,18 +31,3 @@ pub record Remade (a : List ℕ) : Type 0 where
 -- R76: this holds of every archive that the reader accepts.
 abbrev pub WritesBack : Type 0
 WritesBack = (a : List ℕ) → Bytes a → checked a .number ≡ 0 → Remade a
-
--- ---- old and new
-
--- R87: of an archive that the reader accepts, the fourth byte tells: 50 in a new one, 49 in an old one.
-abbrev pub FourthByteTells : Type 0
-FourthByteTells = (a : List ℕ) → checked a .number ≡ 0 → (isNew a ≡ eqb (getD a 3 0) 50) × (isNew a ≡ false → getD a 3 0 ≡ 49)
-
--- R87: no bytes are the archive of one list as an old one and of any list as a new one.
-abbrev pub OldIsNotNew : Type 0
-OldIsNotNew = (list other : List ℕ) → archiveOf false list ≡ archiveOf true other → ⊥
-
--- R84: in an old archive an entry of a kind that the old rules do not have gets 2, wherever it stands; the first such number is the reader's (R73).
-abbrev pub OldKindsOnly : Type 0
-OldKindsOnly =
-    (ends final : Bool) (e : List ℕ) → length e ≡ 32 → isOldKind (entryOf e .kind) ≡ false → numberIn false ends final e ≡ 2

@@ -21,7 +21,8 @@ ghost use Rattle.archive.specs.Writing.{written, outputAfter};
 ghost use Rattle.archive.specs.Reading.{isNew, checked, placeOf, sectionAt};
 ghost use Rattle.archive.specs.Replay.{replayed, figuresOf, BanksAddUp, FigureAddsUp, DebtsAddUp, DaysAddUp, StrikingChangesNothing};
 ghost use Rattle.archive.specs.YearSheet.{sheetOf};
-ghost use Rattle.archive.specs.RoundTrips.{ReadsBack, WritesBack, FourthByteTells, OldIsNotNew, OldKindsOnly};
+ghost use Rattle.archive.specs.RoundTrips.{ReadsBack, WritesBack};
+ghost use Rattle.archive.specs.OldAndNew.{FourthByteTells, OneByteApart, OldIsNotNew, OldKindsOnly, LaterKindsRefused};
 ghost use Rattle.archive.specs.WorkedCases.{WorkedCases};
 use crate::opening::opens_as;
 use crate::reading::check_sections;
@@ -159,11 +160,13 @@ pub fn round_trips()
     ensures writes_back { λ r. ⌜ WritesBack ⌝ }
 {}
 
-// R84 and R87: which archives are old and which are new, and that old ones have old kinds only.
+// R84 and R87: specs/OldAndNew.antt has each claim in words.
 pub fn old_and_new()
     ensures fourth_byte { λ r. ⌜ FourthByteTells ⌝ }
+    ensures one_byte { λ r. ⌜ OneByteApart ⌝ }
     ensures apart { λ r. ⌜ OldIsNotNew ⌝ }
-    ensures kinds { λ r. ⌜ OldKindsOnly ⌝ }
+    ensures old_kinds { λ r. ⌜ OldKindsOnly ⌝ }
+    ensures later_kinds { λ r. ⌜ LaterKindsRefused ⌝ }
 {}
 
 // R78: what `history::every_history` claims of every list holds of the entries that an archive holds.
