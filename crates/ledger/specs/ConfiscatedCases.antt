@@ -3,7 +3,7 @@ use Rattle.tariff.specs.Vocabulary.{ℕ, pos, Bool, true, false, List, [], _∷
 use Rattle.ledger.specs.Structs.{Account, Ledger, Today}
 use Rattle.tariff.specs.Terms.{termsFrom}
 use Rattle.ledger.specs.Answers.{quiet}
-use Rattle.ledger.specs.State.{account, accountAt, ledger, noTotals, noToday, nobody}
+use Rattle.ledger.specs.State.{account, accountAt, ledger, noTotals, noToday, nobody, withMeasure, withToday}
 use Rattle.ledger.specs.Posting.{posted}
 use Rattle.ledger.specs.Panel.{bankOf}
 use Rattle.ledger.specs.Running.{run}
@@ -66,6 +66,11 @@ january new = ending new 1 4063825
 abbrev pub march : Bool → Ledger
 march new = ending new 3 1563625
 
+-- R56: January's last day, with a step that falls.
+abbrev pub falling : Bool → Ledger
+falling new =
+    on new 1 31 (withMeasure (supplier 4063825 true (delivered false 0)) (record { 0 = 2400 }) (record { k = 2; pending = 1; over = 0; under = 0 }))
+
 -- R43: January's last day without its consumption, so that its closing is refused.
 abbrev pub unmetered : Ledger
 unmetered = on true 1 31 (supplier 4063825 false (delivered false 0))
@@ -84,12 +89,22 @@ pub record ConfiscatedCases : Type 0 where
       (forfeitAfter (january false) [] 1 ≡ 1000)
       × (forfeitAfter (march false) [] 3 ≡ 1000)
       × (forfeitAfter (on false 1 31 (supplier 4063825 true (delivered true 600))) [] 1 ≡ 1000)
+  -- R57: the excess is what is left above after the day's cash: of 103 percent in January 98 stay, and 33 of them lie above 65.
+  pub afterCash :
+      (forfeitAfter (ending false 1 6438015) [] 1 ≡ 2062665) × (forfeitAfter (ending true 1 6438015) (confiscated 1 3000000 ∷ []) 1 ≡ 2062665)
+  -- R56: it goes by the BCQ that the month's end brings, 31,252 where the step falls to 1.
+  pub nextStep : (forfeitAfter (falling false) [] 1 ≡ 2032445) × (forfeitAfter (falling true) (confiscated 1 2032444 ∷ []) 1 ≡ 2032444)
   -- R85: the posting itself moves no gas; the closing takes the forfeit from the bank, and clears what was told.
   pub bank :
       (bankOf (run (january true) (confiscated 1 600 ∷ [])) 0 ≡ pos 4063825)
       × (bankOf (run (january true) (confiscated 1 600 ∷ closing 1 ∷ [])) 0 ≡ pos 4063225)
   pub told :
       (onRecord (run (january true) (confiscated 1 600 ∷ [])) ≡ (true, 600)) × (onRecord (run (january true) (confiscated 1 600 ∷ closing 1 ∷ [])) ≡ (false, 0))
+  -- R85: a delivery of the same day leaves it; every accepted closing clears it, in an old ledger too, and ENROL starts without one.
+  pub leftAndCleared :
+      (onRecord (run (on true 1 31 (supplier 0 true noToday)) (confiscated 1 600 ∷ entry 3 0 1 31 0 ∷ [])) ≡ (true, 600))
+      × (onRecord (run (on false 1 30 (supplier 2300000 true (delivered true 600))) (entry 8 0 1 30 0 ∷ [])) ≡ (false, 0))
+      × (onRecord (run (on true 4 1 (withToday nobody (delivered true 600))) (entry 2 0 4 1 6000 ∷ [])) ≡ (false, 0))
   -- R85: 26 the second time, also after 0 was told, and after a closing that was refused and left the amount.
   pub twice :
       (numberAfter (january true) [] (confiscated 1 600) ≡ 0)
@@ -104,6 +119,7 @@ pub record ConfiscatedCases : Type 0 where
       (numberAfter (on true 1 30 (supplier 0 true noToday)) [] (entry 10 0 1 30 600) ≡ 23)
       × (numberAfter (on true 2 28 (supplier 0 true noToday)) [] (entry 10 0 2 28 600) ≡ 23)
       × (numberAfter (on true 3 30 (supplier 0 true noToday)) [] (entry 10 1 3 30 600) ≡ 23)
+      × (numberAfter (on true 5 31 (supplier 0 true noToday)) [] (entry 10 0 5 31 600) ≡ 23)
       × (numberAfter (january true) [] (entry 10 1 1 31 600) ≡ 24)
   -- R84: no kind in an old ledger, and later kinds are none yet in a new one. R13: 6 above 10^9. R18: 20 if the amount on record is out of range.
   pub numbers :

@@ -45,11 +45,14 @@ all-cases =
       none = (refl, refl);
       nothing = (refl, refl);
       old = (refl, refl, refl);
+      afterCash = (refl, refl);
+      nextStep = (refl, refl);
       bank = (refl, refl);
       told = (refl, refl);
+      leftAndCleared = (refl, refl, refl);
       twice = (refl, refl, refl);
       refusedClosing = (refl, refl, refl);
-      offDay = (refl, refl, refl, refl);
+      offDay = (refl, refl, refl, refl, refl);
       numbers = (refl, refl, refl, refl);
     }
 
