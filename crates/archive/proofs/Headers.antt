@@ -3,7 +3,7 @@ use borrow.Author.Tests.{eqb-true, ltb-false, eq-eqb, le-ltb, not-false}
 use native.Mathlib.Omega.{arith}
 use Prim.Native.Nat.{ℕ, _+_, _*_, _/_, _%_, _<_, _≤_}
 use mathlib.Core.Path.{_∙_, _≡_, refl, sym}
-use mathlib.Core.Bool.{Bool, true, false, cond, _||_}
+use mathlib.Core.Bool.{Bool, true, false, _||_}
 use mathlib.Core.List.{List, [], _∷_, _++_}
 use lib.Dec.{eqb}
 use lib.ListN.{length, getD, take, List·getD-eq-default}
@@ -108,7 +108,7 @@ opening-bytes new a h = (
 
 -- the first four bytes of an archive that opens rightly
 pub opened : (a : List ℕ) → rightOpening a ≡ true
-    → (getD a 0 0 ≡ 69) × (getD a 1 0 ≡ 70) × (getD a 2 0 ≡ 66) × (getD a 3 0 ≡ cond (isNew a) 50 49)
+    → (getD a 0 0 ≡ getD (openingBytes (isNew a)) 0 0) × (getD a 1 0 ≡ getD (openingBytes (isNew a)) 1 0) × (getD a 2 0 ≡ getD (openingBytes (isNew a)) 2 0) × (getD a 3 0 ≡ getD (openingBytes (isNew a)) 3 0)
 opened a h = opening-bytes (isNew a) a (opens-as a h)
 
 -- fewer than four bytes are no new archive's: the fourth that is not there counts as 0

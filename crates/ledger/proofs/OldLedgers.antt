@@ -28,7 +28,7 @@ use Rattle.ledger.specs.Closing.{afterClosing, afterDay, afterMonth, clo
 use Rattle.ledger.specs.Closings.{closed, closingChecks, postClosing}
 use Rattle.ledger.specs.Posting.{admission, changeOf, postEntry, postKind, postSeveral, posted, stored}
 use Rattle.ledger.specs.Running.{run}
-use Rattle.ledger.specs.OldAndNew.{AsBefore, ForfeitsByRule, KeepsWhich, NineKinds, StaysAsBefore, excessIn, isOldKind}
+use Rattle.ledger.specs.OldAndNew.{AsBefore, ForfeitsByRule, KeepsWhich, NineKinds, ReportsAlike, SameButForfeit, StaysAsBefore, excessIn, isOldKind, told}
 use Rattle.ledger.proofs.ClosedAccounts.{account-closed, account-reported}
 use Rattle.ledger.proofs.FreshLedger.{fresh-account}
 use Rattle.ledger.proofs.KindCases.{done, each, _then_}
@@ -234,14 +234,52 @@ run-before l (b ∷ bs) s = run-before (posted l b .ledger) bs (next-before l b 
 pub stays-as-before : StaysAsBefore
 stays-as-before = (next-before, λ bs. run-before (fresh false) bs fresh-before)
 
--- ---- what an accepted closing of a month forfeits
+-- ---- what an accepted closing of a month reports
+
+module _ (l : Ledger) (e : Entry) (i : ℕ) (nine : e .kind ≡ 9) where
+  abbrev Reports : Posted → Type 0
+  Reports p = p .answer .number ≡ 0 → getD (p .answer .reports) i quiet ≡ reportOf (l .«is_new») (l .terms) e (accountAt l i)
+
+  refused-none : (n : ℕ) → (n ≡ 0 → ⊥) → Reports (refused l n)
+  unfolding refused plain
+  refused-none n d z = absurd (d z)
+
+  several-report : Reports (postSeveral l e)
+  unfolding postSeveral postClosing
+  several-report =
+      each Reports (e .kind) _
+      ((λ is. absurd (omega (arith, is, nine)))
+      then (λ is. absurd (omega (arith, is, nine)))
+      then (λ is. absurd (omega (arith, is, nine)))
+      then (λ _. either Reports (eqb (verdict (closingChecks l e)) 0) _ _ (λ _ _. account-reported l e i) (λ f. refused-none _ (eqb-false (verdict (closingChecks l e)) 0 f)))
+      then done)
+      (refused-none 2 (λ z. omega (arith, z)))
+
+  none-named : kindOf (e .kind) .accounts ≡ 0
+  unfolding kindOf lookup
+  none-named = rw nine
+
+  entry-reports : Reports (postEntry l e)
+  unfolding postEntry postKind
+  entry-reports =
+      either Reports (eqb (admission l e) 0) _ _
+      (λ _. rw none-named several-report)
+      (λ f. refused-none (admission l e) (eqb-false (admission l e) 0 f))
+
+month-reported : (l : Ledger) (b : List ℕ) (i : ℕ) → posted l b .answer .number ≡ 0 → entryOf b .kind ≡ 9
+    → getD (posted l b .answer .reports) i quiet ≡ reportOf (l .«is_new») (l .terms) (entryOf b) (accountAt l i)
+unfolding posted
+month-reported l b i z nine =
+    either (Reports l (entryOf b) i nine) (eqb (length b) 32) _ _
+    (λ _. entry-reports l (entryOf b) i nine)
+    (λ _. refused-none l (entryOf b) i nine 1 (λ y. omega (arith, y)))
+    z
+
+-- ---- the forfeit in it
 
 module _ (l : Ledger) (e : Entry) (i : ℕ) (nine : e .kind ≡ 9) (o : accountAt l i .opened ≡ true) where
   abbrev due : ℕ
   due = excessIn l (e .date) i
-
-  abbrev Forfeits : Posted → Type 0
-  Forfeits p = p .answer .number ≡ 0 → getD (p .answer .reports) i quiet .forfeit .0 ≡ cond (l .«is_new») (min (accountAt l i .today .confiscation .0) due) due
 
   as-month : closingOf (l .«is_new») (l .terms) e (accountAt l i) ≡ monthClosing (l .«is_new») (e .date) (l .terms) (pricesOf e) (accountAt l i)
   unfolding closingOf lookup
@@ -253,39 +291,34 @@ module _ (l : Ledger) (e : Entry) (i : ℕ) (nine : e .kind ≡ 9) (o : accountA
       ap (λ (c : Closed). c .report .forfeit .0) as-month
       ∙ forfeit-value (l .«is_new») (accountAt l i .today .confiscation) (excessAt (e .date) (l .terms) (afterDay (e .date) (accountAt l i)))
 
-  closed-forfeits : Forfeits (closed l e)
-  closed-forfeits _ = ap (λ (r : Report). r .forfeit .0) (account-reported l e i) ∙ reported-forfeit
-
-  refused-none : (n : ℕ) → (n ≡ 0 → ⊥) → Forfeits (refused l n)
-  unfolding refused plain
-  refused-none n d z = absurd (d z)
-
-  several-forfeits : Forfeits (postSeveral l e)
-  unfolding postSeveral postClosing
-  several-forfeits =
-      each Forfeits (e .kind) _
-      ((λ is. absurd (omega (arith, is, nine)))
-      then (λ is. absurd (omega (arith, is, nine)))
-      then (λ is. absurd (omega (arith, is, nine)))
-      then (λ _. either Forfeits (eqb (verdict (closingChecks l e)) 0) _ _ (λ _. closed-forfeits) (λ f. refused-none _ (eqb-false (verdict (closingChecks l e)) 0 f)))
-      then done)
-      (refused-none 2 (λ z. omega (arith, z)))
-
-  none-named : kindOf (e .kind) .accounts ≡ 0
-  unfolding kindOf lookup
-  none-named = rw nine
-
-  entry-forfeits : Forfeits (postEntry l e)
-  unfolding postEntry postKind
-  entry-forfeits =
-      either Forfeits (eqb (admission l e) 0) _ _
-      (λ _. rw none-named several-forfeits)
-      (λ f. refused-none (admission l e) (eqb-false (admission l e) 0 f))
-
 pub forfeits-by-rule : ForfeitsByRule
-unfolding posted
-forfeits-by-rule l b i z nine o =
-    either (Forfeits l (entryOf b) i nine o) (eqb (length b) 32) _ _
-    (λ _. entry-forfeits l (entryOf b) i nine o)
-    (λ _. refused-none l (entryOf b) i nine o 1 (λ y. omega (arith, y)))
-    z
+forfeits-by-rule l b i z nine o = ap (λ (r : Report). r .forfeit .0) (month-reported l b i z nine) ∙ reported-forfeit l (entryOf b) i nine o
+
+-- ---- and all else in it
+
+module _ (new old : Bool) (t : Terms) (e : Entry) (a : Account) where
+  same-month : SameButForfeit (monthClosing new (e .date) t (pricesOf e) a .report) (monthClosing old (e .date) t (pricesOf e) a .report)
+  unfolding monthClosing
+  same-month = record { mask = refl; cash = refl; bill = refl }
+
+  same-report : SameButForfeit (reportOf new t e a) (reportOf old t e a)
+  unfolding reportOf closingOf lookup
+  same-report = go (a .opened) (eqb (e .kind) 8) (eqb (e .kind) 9)
+    where
+      month : Bool → Closed
+      month n = monthClosing n (e .date) t (pricesOf e) a
+
+      alike : (c : Closed) → SameButForfeit (c .report) (c .report)
+      alike c = record { mask = refl; cash = refl; bill = refl }
+
+      go : (o d m : Bool)
+          → SameButForfeit (cond o (cond d (dayClosing (e .date) a) (cond m (month new) (leftAlone a))) (leftAlone a) .report) (cond o (cond d (dayClosing (e .date) a) (cond m (month old) (leftAlone a))) (leftAlone a) .report)
+      go true true m = alike (dayClosing (e .date) a)
+      go true false true = same-month
+      go true false false = alike (leftAlone a)
+      go false d m = alike (leftAlone a)
+
+pub reports-alike : ReportsAlike
+unfolding told accountAt
+reports-alike l new b i nine z y =
+    rw (month-reported l b i z nine, month-reported (told new l) b i y nine) (same-report (l .«is_new») new (l .terms) (entryOf b) (accountAt l i))

@@ -1,6 +1,6 @@
 -- What sets old ledgers and new ones apart, and that an old one is answered as it was before there were new ones.
 use Rattle.tariff.specs.Vocabulary.{ℕ, min, Bool, false, true, cond, _&&_, leb, List, length, getD, _≡_}
-use Rattle.ledger.specs.Structs.{Date, Ledger}
+use Rattle.ledger.specs.Structs.{Date, Ledger, Report}
 use Rattle.ledger.specs.Kinds.{TERMS, CLOSE-MONTH, CONFISCATED}
 use Rattle.ledger.specs.Entries.{entryOf}
 use Rattle.ledger.specs.State.{fresh, accountAt, ledger}
@@ -42,6 +42,12 @@ AlikeOtherwise =
     (l : Ledger) (new : Bool) (b : List ℕ) → (entryOf b .kind ≡ CLOSE-MONTH → ⊥) → (entryOf b .kind ≡ CONFISCATED → ⊥)
     → posted (told new l) b ≡ record { answer = posted l b .answer; ledger = told new (posted l b .ledger) }
 
+-- R86: two reports that differ in the forfeit at most.
+pub record SameButForfeit (r s : Report) : Type 0 where
+  pub mask : r .mask ≡ s .mask
+  pub cash : r .cash ≡ s .cash
+  pub bill : r .bill ≡ s .bill
+
 -- R57: what of account i lies above its percentage as a day closes, after the day's cash and with its next step.
 unfoldable pub excessIn : Ledger → Date → ℕ → ℕ
 excessIn l d i = excessAt d (l .terms) (afterDay d (accountAt l i)) .0
@@ -53,3 +59,10 @@ ForfeitsByRule =
     (l : Ledger) (b : List ℕ) (i : ℕ) → posted l b .answer .number ≡ 0 → entryOf b .kind ≡ CLOSE-MONTH → accountAt l i .opened ≡ true
     → getD (posted l b .answer .reports) i quiet .forfeit .0
     ≡ cond (l .«is_new») (min (accountAt l i .today .confiscation .0) (excessIn l (entryOf b .date) i)) (excessIn l (entryOf b .date) i)
+
+-- R86: what else it reports of an account, mask, cash and bill, is the same of the ledger told otherwise, where that accepts it too.
+abbrev pub ReportsAlike : Type 0
+ReportsAlike =
+    (l : Ledger) (new : Bool) (b : List ℕ) (i : ℕ) → entryOf b .kind ≡ CLOSE-MONTH
+    → posted l b .answer .number ≡ 0 → posted (told new l) b .answer .number ≡ 0
+    → SameButForfeit (getD (posted l b .answer .reports) i quiet) (getD (posted (told new l) b .answer .reports) i quiet)
