@@ -31,7 +31,6 @@ pub use state::Ledger;
 pub use state::ThisMonth;
 pub use state::Today;
 ghost use mathlib.Core.Path.{_≡_};
-ghost use mathlib.Core.Bool.{Bool};
 ghost use Rattle.ledger.specs.Forms.{formNumber};
 ghost use Rattle.ledger.specs.State.{fresh};
 ghost use Rattle.ledger.specs.Posting.{posted};
@@ -186,7 +185,7 @@ pub fn confiscated_cases()
     ensures { λ r. ⌜ ConfiscatedCases ⌝ }
 {}
 
-// R67: cases worked out in advance hold of postings to a fresh ledger, old or new, as one group.
+// R67: cases worked out in advance hold of postings to an old fresh ledger, as one group.
 pub fn marked_cases()
-    ensures { λ r. ⌜ ((new : Bool) → MarkedCases new) ⌝ }
+    ensures { λ r. ⌜ MarkedCases ⌝ }
 {}

@@ -1,5 +1,4 @@
 -- The marked cases are plain numbers, so each is computed from the first definition to the last; all of them are opened for it.
-use mathlib.Core.Bool.{Bool, false, true}
 use mathlib.Core.Path.{refl}
 use Rattle.tariff.specs.Amounts.{nothing, amountOf, sum, more, less, gap, opposite, positivePart, inward, outward, above, below, within, together, percent, noMoney, charged, credited, added, withinMills}
 use Rattle.tariff.specs.Months.{january, february, march, april, june, august, november, december, sameMonth, gasMonth, winter, minimum, maximum, mmbq, withdrawalMaximum, withdrawalMinimum}
@@ -35,24 +34,9 @@ use Rattle.ledger.specs.MarkedCases.{MarkedCases}
 use Rattle.ledger.proofs.marked_cases.Statement.{statement}
 use Rattle.ledger.proofs.marked_cases.Tie as tie
 
-all-nine : (new : Bool) → MarkedCases new
+all-nine : MarkedCases
 unfolding nothing amountOf sum more less gap opposite positivePart inward outward above below within together percent noMoney charged credited added withinMills january february march april june august november december sameMonth gasMonth winter minimum maximum mmbq withdrawalMaximum withdrawalMinimum divides leap lengths monthLength real sameDate isOn firstOfGasYear confiscationDay lastOfMonth lastDate dayAfter total dayNumber weekday businessDay measurementDay onMeasurementDay termsInRange mddqOf bcqOf capacityOf staysOnFbs openingTooHigh retained daysOfInjection breaksV1 shareOf breaksV2 aboveMaximum belowMinimum stepOf firstStep isOver isUnder crosses measured settledStep falls breaksV3 withdrawalLimit breaksV4 breaksV5 breaksV6 breaksV7 breaksV8 cashOf endsExcuse excessOver carryOf forfeitOf forfeitUnder maskOf pricesInRange cashInCharge cashOutCredit atInventoryCost billOf verdict byteAt halfAt wordAt entryOf lookup kindOf termsOf pricesOf processOnly wishes companySells accountTooHigh unusedSet someUnits wordsInRange wrongTransfer fieldChecks entryChecks entryNumber noTotals noMonth noToday nobody fresh accountAt asOpen withExcuse withToday withBank withMonth withTotals withCarry withDays withMeasure withCapacity withAccount totalsInRange stepInRange accountInRange everyAccount inRange quiet plain refused settle reworked termsNext termsChecks postTerms newAccount enrolled enrolChecks enrolment withNet deliveredToday delivered amountUnder afterDelivery deliverChecks delivery giver receiver transferChecks postTransfer afterGiving afterTaking givingChecks takingChecks giving taking withTrade booked traded trade remeasured afterMeasure measureChecks measurement withUsage metered afterUsage usageChecks usage limitOf violationsOf cashAt withCash excusedStill dayEnd afterDay billAt nextCapacity excessAt forfeitAt monthEnd afterMonth dayClosing monthClosing leftAlone closingOf afterClosing reportOf wrongDay ready staysInRange closingChecks closed postClosing standingChecks admission postSeveral changeOf stored postKind postEntry posted openBank bankOf
-all-nine true =
-    record {
-      header = (refl, refl, refl);
-      case1 = (refl, refl, refl, refl);
-      case2 = (refl, refl, refl, refl);
-      case3 = (refl, refl);
-      case4 = (refl, refl, refl, refl);
-      case5 = (refl, refl, refl, refl);
-      case6 = (refl, refl, refl, refl);
-      case7 = (refl, refl);
-      case8 = (refl, refl);
-      case9 = (refl, refl);
-      quietDay = refl;
-      overfull = refl;
-    }
-all-nine false =
+all-nine =
     record {
       header = (refl, refl, refl);
       case1 = (refl, refl, refl, refl);
