@@ -4,7 +4,7 @@ ghost use mathlib.Core.Bool.{true, false};
 ghost use Prim.Native.Nat.{_+_, _*_, _%_, _≤_, _<_};
 ghost use lib.ListN.{length};
 ghost use Rattle.archive.specs.Entries.{entriesOf, firstRefusal};
-ghost use Rattle.archive.specs.Reading.{sectionCount, wrongHeader, rightDirectory, misplaced, numberIn, numbersIn, numbersOf, partsOf, nowhere, checked};
+ghost use Rattle.archive.specs.Reading.{sectionCount, wrongHeader, rightDirectory, numberIn, numbersIn, numbersOf, partsOf, nowhere, checked};
 ghost use Rattle.archive.specs.Replay.{listIn};
 use crate::entries::Checked;
 use crate::entries::closes_month;

@@ -3,26 +3,31 @@ use Prim.Native.Nat.{ℕ}
 use mathlib.Core.Path.{_≡_, refl, sym, ap, _∙_}
 use mathlib.Core.Bool.{Bool, true, false, cond, not, _&&_}
 use mathlib.Core.List.{List, [], _∷_, _++_, map}
+use native.Mathlib.Omega.{arith}
 use lib.Dec.{eqb, leb}
 use lib.ListN.{length}
-use borrow.Author.Tests.{ne-eqb}
+use borrow.Author.Tests.{eq-eqb, eqb-false, eqb-true, ne-eqb}
+use Rattle.tariff.specs.Amounts.{within}
 use Rattle.tariff.specs.Dates.{lastOfMonth, onMeasurementDay}
-use Rattle.ledger.specs.Structs.{Account, Change, Entry, Kind, Ledger, Posted, Terms}
+use Rattle.tariff.proofs.Bools.{either, parts}
+use Rattle.tariff.proofs.Forfeits.{forfeit-stays}
+use Rattle.ledger.specs.Structs.{Account, Change, Closed, Entry, Kind, Ledger, Posted, Terms}
 use Rattle.ledger.specs.Checks.{Check, verdict}
 use Rattle.ledger.specs.Kinds.{kindOf, lookup, version}
-use Rattle.ledger.specs.Entries.{entryOf}
+use Rattle.ledger.specs.Entries.{entryOf, pricesOf}
 use Rattle.ledger.specs.Forms.{entryChecks, fieldChecks}
-use Rattle.ledger.specs.State.{accountAt, withAccount}
+use Rattle.ledger.specs.State.{accountAt, withAccount, withBank, withCapacity, withCarry, withExcuse, withMeasure, withMonth}
 use Rattle.ledger.specs.Ranges.{accountInRange, everyAccount, inRange}
 use Rattle.ledger.specs.Answers.{plain, refused, settle}
 use Rattle.ledger.specs.Terms.{postTerms, termsChecks, termsNext}
 use Rattle.ledger.specs.Transfer.{giver, postTransfer, receiver, transferChecks}
-use Rattle.ledger.specs.Closing.{afterClosing, closingOf, ready, reportOf, staysInRange}
+use Rattle.ledger.specs.Closing.{afterClosing, afterDay, afterMonth, closingOf, dayClosing, excessAt, forfeitAt, leftAlone, monthClosing, monthEnd, nextCapacity, ready, reportOf, staysInRange}
 use Rattle.ledger.specs.Closings.{closed, closingChecks, postClosing}
 use Rattle.ledger.specs.Posting.{admission, changeOf, postEntry, postKind, postSeveral, posted, standingChecks, stored}
-use Rattle.ledger.specs.OldAndNew.{AlikeOtherwise, told}
+use Rattle.ledger.specs.OldAndNew.{AcceptsAlike, AlikeOtherwise, ReportsAlike, SameButForfeit, told}
 use Rattle.ledger.proofs.KindCases.{done, each, _then_}
 use Rattle.ledger.proofs.Lists.{withAccounts}
+use Rattle.ledger.proofs.OldLedgers.{month-reported, none-named}
 
 -- ---- the kinds that there are
 
@@ -42,6 +47,60 @@ same-version true false kind d = same-since kind d
 same-version false true kind d = sym (same-since kind d)
 same-version false false kind d = refl
 
+-- ---- the closing of an account
+
+module _ (new old : Bool) (t : Terms) (e : Entry) (a : Account) where
+  abbrev day : Account
+  day = afterDay (e .date) a
+
+  abbrev month : Bool → Closed
+  month n = monthClosing n (e .date) t (pricesOf e) a
+
+  -- what holds of any closing and itself, and of the two of a month
+  same : (R : Closed → Closed → Type 0) → ((c : Closed) → R c c) → R (month new) (month old) → R (closingOf new t e a) (closingOf old t e a)
+  unfolding closingOf lookup
+  same R r m = go (a .opened) (eqb (e .kind) 8) (eqb (e .kind) 9)
+    where
+      go : (o d k : Bool)
+          → R (cond o (cond d (dayClosing (e .date) a) (cond k (month new) (leftAlone a))) (leftAlone a)) (cond o (cond d (dayClosing (e .date) a) (cond k (month old) (leftAlone a))) (leftAlone a))
+      go true true k = r (dayClosing (e .date) a)
+      go true false true = m
+      go true false false = r (leftAlone a)
+      go false d k = r (leftAlone a)
+
+  -- what is reported, but for the forfeit
+  same-report : SameButForfeit (reportOf new t e a) (reportOf old t e a)
+  unfolding reportOf monthClosing
+  same-report =
+      same (λ c d. SameButForfeit (c .report) (d .report)) (λ c. record { mask = refl; cash = refl; bill = refl })
+      (record { mask = refl; cash = refl; bill = refl })
+
+  -- whether the account stays in range: no forfeit takes a bank out of it
+  bank-ranged : accountInRange day ≡ true → within 1000000000 100000000000 (day .bank) ≡ true
+  unfolding accountInRange
+  bank-ranged h = search parts depth 10
+
+  same-range : accountInRange day ≡ true → accountInRange (month new .account) ≡ accountInRange (month old .account)
+  unfolding accountInRange monthClosing afterMonth monthEnd forfeitAt excessAt withExcuse withCarry withMonth withCapacity withMeasure withBank
+  same-range h =
+      let left : (n : Bool) → _ = λ n. forfeit-stays 1000000000 100000000000 n (a .today .confiscation) (e .date .month) (nextCapacity t day .bcq) (day .bank) (bank-ranged h) in
+      rw (left new, left old)
+
+  abbrev stays : Closed → Bool
+  stays c = accountInRange (c .day) && accountInRange (c .account)
+
+  same-month : stays (month new) ≡ stays (month old)
+  unfolding monthClosing
+  same-month = go (accountInRange day) refl
+    where
+      go : (t : Bool) → accountInRange day ≡ t → t && accountInRange (month new .account) ≡ t && accountInRange (month old .account)
+      go true h = same-range h
+      go false h = refl
+
+  same-stays : staysInRange new t e a ≡ staysInRange old t e a
+  unfolding staysInRange
+  same-stays = same (λ c d. stays c ≡ stays d) (λ c. refl) same-month
+
 -- ---- the closing of a day
 
 module _ (new old : Bool) (t : Terms) (e : Entry) (d : e .kind ≡ 9 → ⊥) where
@@ -52,17 +111,13 @@ module _ (new old : Bool) (t : Terms) (e : Entry) (d : e .kind ≡ 9 → ⊥) wh
       one : (a : Account) → closingOf new t e a ≡ closingOf old t e a
       one a = cc (ne-eqb (e .kind) 9 d)
 
-  same-stays : staysInRange new t e ≡ staysInRange old t e
-  unfolding staysInRange
-  same-stays = λ i a. accountInRange (same-closing i a .day) && accountInRange (same-closing i a .account)
-
   same-after : afterClosing new t e ≡ afterClosing old t e
   unfolding afterClosing
   same-after = λ i a. same-closing i a .account
 
-  same-report : reportOf new t e ≡ reportOf old t e
+  same-reports : reportOf new t e ≡ reportOf old t e
   unfolding reportOf
-  same-report = λ i a. same-closing i a .report
+  same-reports = λ i a. same-closing i a .report
 
 -- ---- a posting to both
 
@@ -105,17 +160,17 @@ module _ (l : Ledger) (new : Bool) where
     transfer-twin =
         settled-twin (verdict (transferChecks l e)) (withAccount (withAccount l (e .a) (giver l e .account)) (e .b) (receiver l e .account))
 
-    module _ (d : e .kind ≡ 9 → ⊥) where
-      checks-twin : closingChecks (told new l) e ≡ closingChecks l e
-      unfolding closingChecks told
-      checks-twin =
-          ap (λ (f : Account → Bool). (not (everyAccount (ready (lastOfMonth (e .date)) (onMeasurementDay (e .date))) (l .accounts)), 27) ∷ (not (everyAccount f (l .accounts)), 29) ∷ [])
-          (same-stays new (l .«is_new») (l .terms) e d)
+    checks-twin : closingChecks (told new l) e ≡ closingChecks l e
+    unfolding closingChecks told
+    checks-twin =
+        ap (λ (f : Account → Bool). (not (everyAccount (ready (lastOfMonth (e .date)) (onMeasurementDay (e .date))) (l .accounts)), 27) ∷ (not (everyAccount f (l .accounts)), 29) ∷ [])
+        (λ i a. same-stays new (l .«is_new») (l .terms) e a i)
 
+    module _ (d : e .kind ≡ 9 → ⊥) where
       closed-twin : closed (told new l) e ≡ twin (closed l e)
       unfolding closed told
       closed-twin =
-          let reports = same-report new (l .«is_new») (l .terms) e d in
+          let reports = same-reports new (l .«is_new») (l .terms) e d in
           let accounts = same-after new (l .«is_new») (l .terms) e d in
           λ i. record {
             answer = record { number = 0; reports = map (reports i) (l .accounts) };
@@ -149,3 +204,61 @@ pub alike-otherwise : AlikeOtherwise
 unfolding posted
 alike-otherwise l new b d c =
     choose l new (eqb (length b) 32) (postEntry l (entryOf b)) (refused l 1) (entry-twin l new (entryOf b) d c) (refused-twin l new 1)
+
+-- ---- the number of a month's closing
+
+refused-number : (l : Ledger) (n : ℕ) → refused l n .answer .number ≡ n
+unfolding refused plain
+refused-number l n = refl
+
+module _ (l : Ledger) (e : Entry) (nine : e .kind ≡ 9) where
+  abbrev number : ℕ
+  number = verdict (closingChecks l e)
+
+  closing-number : postClosing l e .answer .number ≡ cond (eqb number 0) 0 number
+  unfolding postClosing closed refused plain
+  closing-number = either (λ (p : Posted). p .answer .number ≡ cond (eqb number 0) 0 number) (eqb number 0) (closed l e) (refused l number) (λ z. rw z) (λ z. rw z)
+
+  kind-number : postKind l e .answer .number ≡ cond (eqb number 0) 0 number
+  unfolding postKind postSeveral lookup
+  kind-number =
+      rw (none-named l e 0 nine, ne-eqb (e .kind) 1 (λ z. omega (arith, z, nine)), ne-eqb (e .kind) 4 (λ z. omega (arith, z, nine)), ne-eqb (e .kind) 8 (λ z. omega (arith, z, nine)), eq-eqb (e .kind) 9 nine)
+      closing-number
+
+module _ (l : Ledger) (new : Bool) (b : List ℕ) (nine : entryOf b .kind ≡ 9) where
+  abbrev e : Entry
+  e = entryOf b
+
+  kind-alike : postKind (told new l) e .answer .number ≡ postKind l e .answer .number
+  kind-alike = kind-number (told new l) e nine ∙ ap (λ (cs : List Check). cond (eqb (verdict cs) 0) 0 (verdict cs)) (checks-twin l new e) ∙ sym (kind-number l e nine)
+
+  entry-alike : postEntry (told new l) e .answer .number ≡ postEntry l e .answer .number
+  unfolding postEntry
+  entry-alike =
+      ap (λ (n : ℕ). cond (eqb n 0) (postKind (told new l) e) (refused (told new l) n) .answer .number) (admission-twin l new e (λ z. omega (arith, z, nine)))
+      ∙ go (eqb (admission l e) 0) (admission l e)
+    where
+      go : (t : Bool) (n : ℕ) → cond t (postKind (told new l) e) (refused (told new l) n) .answer .number ≡ cond t (postKind l e) (refused l n) .answer .number
+      go true n = kind-alike
+      go false n = refused-number (told new l) n ∙ sym (refused-number l n)
+
+  month-alike : posted (told new l) b .answer .number ≡ posted l b .answer .number
+  unfolding posted
+  month-alike = go (eqb (length b) 32)
+    where
+      go : (t : Bool) → cond t (postEntry (told new l) e) (refused (told new l) 1) .answer .number ≡ cond t (postEntry l e) (refused l 1) .answer .number
+      go true = entry-alike
+      go false = refused-number (told new l) 1 ∙ sym (refused-number l 1)
+
+pub accepts-alike : AcceptsAlike
+accepts-alike l new b c = go (eqb (entryOf b .kind) 9) refl
+  where
+    go : (t : Bool) → eqb (entryOf b .kind) 9 ≡ t → posted (told new l) b .answer .number ≡ posted l b .answer .number
+    go true z = month-alike l new b (eqb-true (entryOf b .kind) 9 z)
+    go false z = ap (λ (p : Posted). p .answer .number) (alike-otherwise l new b (eqb-false (entryOf b .kind) 9 z) c)
+
+pub reports-alike : ReportsAlike
+unfolding told accountAt
+reports-alike l new b i z nine =
+    let y : posted (told new l) b .answer .number ≡ 0 = accepts-alike l new b (λ x. omega (arith, x, nine)) ∙ z in
+    rw (month-reported l b i z nine, month-reported (told new l) b i y nine) (same-report (l .«is_new») new (l .terms) (entryOf b) (accountAt l i))

@@ -28,7 +28,7 @@ use Rattle.ledger.specs.Closing.{afterClosing, afterDay, afterMonth, clo
 use Rattle.ledger.specs.Closings.{closed, closingChecks, postClosing}
 use Rattle.ledger.specs.Posting.{admission, changeOf, postEntry, postKind, postSeveral, posted, stored}
 use Rattle.ledger.specs.Running.{run}
-use Rattle.ledger.specs.OldAndNew.{AsBefore, ForfeitsByRule, KeepsWhich, NineKinds, ReportsAlike, SameButForfeit, StaysAsBefore, excessIn, isOldKind, told}
+use Rattle.ledger.specs.OldAndNew.{AsBefore, ForfeitsByRule, KeepsWhich, NineKinds, StaysAsBefore, excessIn, isOldKind}
 use Rattle.ledger.proofs.ClosedAccounts.{account-closed, account-reported}
 use Rattle.ledger.proofs.FreshLedger.{fresh-account}
 use Rattle.ledger.proofs.KindCases.{done, each, _then_}
@@ -255,7 +255,7 @@ module _ (l : Ledger) (e : Entry) (i : ℕ) (nine : e .kind ≡ 9) where
       then done)
       (refused-none 2 (λ z. omega (arith, z)))
 
-  none-named : kindOf (e .kind) .accounts ≡ 0
+  pub none-named : kindOf (e .kind) .accounts ≡ 0
   unfolding kindOf lookup
   none-named = rw nine
 
@@ -266,7 +266,7 @@ module _ (l : Ledger) (e : Entry) (i : ℕ) (nine : e .kind ≡ 9) where
       (λ _. rw none-named several-report)
       (λ f. refused-none (admission l e) (eqb-false (admission l e) 0 f))
 
-month-reported : (l : Ledger) (b : List ℕ) (i : ℕ) → posted l b .answer .number ≡ 0 → entryOf b .kind ≡ 9
+pub month-reported : (l : Ledger) (b : List ℕ) (i : ℕ) → posted l b .answer .number ≡ 0 → entryOf b .kind ≡ 9
     → getD (posted l b .answer .reports) i quiet ≡ reportOf (l .«is_new») (l .terms) (entryOf b) (accountAt l i)
 unfolding posted
 month-reported l b i z nine =
@@ -293,32 +293,3 @@ module _ (l : Ledger) (e : Entry) (i : ℕ) (nine : e .kind ≡ 9) (o : accountA
 
 pub forfeits-by-rule : ForfeitsByRule
 forfeits-by-rule l b i z nine o = ap (λ (r : Report). r .forfeit .0) (month-reported l b i z nine) ∙ reported-forfeit l (entryOf b) i nine o
-
--- ---- and all else in it
-
-module _ (new old : Bool) (t : Terms) (e : Entry) (a : Account) where
-  same-month : SameButForfeit (monthClosing new (e .date) t (pricesOf e) a .report) (monthClosing old (e .date) t (pricesOf e) a .report)
-  unfolding monthClosing
-  same-month = record { mask = refl; cash = refl; bill = refl }
-
-  same-report : SameButForfeit (reportOf new t e a) (reportOf old t e a)
-  unfolding reportOf closingOf lookup
-  same-report = go (a .opened) (eqb (e .kind) 8) (eqb (e .kind) 9)
-    where
-      month : Bool → Closed
-      month n = monthClosing n (e .date) t (pricesOf e) a
-
-      alike : (c : Closed) → SameButForfeit (c .report) (c .report)
-      alike c = record { mask = refl; cash = refl; bill = refl }
-
-      go : (o d m : Bool)
-          → SameButForfeit (cond o (cond d (dayClosing (e .date) a) (cond m (month new) (leftAlone a))) (leftAlone a) .report) (cond o (cond d (dayClosing (e .date) a) (cond m (month old) (leftAlone a))) (leftAlone a) .report)
-      go true true m = alike (dayClosing (e .date) a)
-      go true false true = same-month
-      go true false false = alike (leftAlone a)
-      go false d m = alike (leftAlone a)
-
-pub reports-alike : ReportsAlike
-unfolding told accountAt
-reports-alike l new b i nine z y =
-    rw (month-reported l b i z nine, month-reported (told new l) b i y nine) (same-report (l .«is_new») new (l .terms) (entryOf b) (accountAt l i))

@@ -42,6 +42,11 @@ AlikeOtherwise =
     (l : Ledger) (new : Bool) (b : List ℕ) → (entryOf b .kind ≡ CLOSE-MONTH → ⊥) → (entryOf b .kind ≡ CONFISCATED → ⊥)
     → posted (told new l) b ≡ record { answer = posted l b .answer; ledger = told new (posted l b .ledger) }
 
+-- R84: it accepts any bytes but a CONFISCATED where it did, and refuses others with the same number.
+abbrev pub AcceptsAlike : Type 0
+AcceptsAlike =
+    (l : Ledger) (new : Bool) (b : List ℕ) → (entryOf b .kind ≡ CONFISCATED → ⊥) → posted (told new l) b .answer .number ≡ posted l b .answer .number
+
 -- R86: two reports that differ in the forfeit at most.
 pub record SameButForfeit (r s : Report) : Type 0 where
   pub mask : r .mask ≡ s .mask
@@ -60,9 +65,8 @@ ForfeitsByRule =
     → getD (posted l b .answer .reports) i quiet .forfeit .0
     ≡ cond (l .«is_new») (min (accountAt l i .today .confiscation .0) (excessIn l (entryOf b .date) i)) (excessIn l (entryOf b .date) i)
 
--- R86: what else it reports of an account, mask, cash and bill, is the same of the ledger told otherwise, where that accepts it too.
+-- R86: what else it reports of an account, mask, cash and bill, is the same of the ledger told otherwise.
 abbrev pub ReportsAlike : Type 0
 ReportsAlike =
-    (l : Ledger) (new : Bool) (b : List ℕ) (i : ℕ) → entryOf b .kind ≡ CLOSE-MONTH
-    → posted l b .answer .number ≡ 0 → posted (told new l) b .answer .number ≡ 0
+    (l : Ledger) (new : Bool) (b : List ℕ) (i : ℕ) → posted l b .answer .number ≡ 0 → entryOf b .kind ≡ CLOSE-MONTH
     → SameButForfeit (getD (posted l b .answer .reports) i quiet) (getD (posted (told new l) b .answer .reports) i quiet)

@@ -35,7 +35,7 @@ ghost use Rattle.ledger.specs.Forms.{formNumber};
 ghost use Rattle.ledger.specs.State.{fresh};
 ghost use Rattle.ledger.specs.Posting.{posted};
 ghost use Rattle.ledger.specs.Panel.{bankOf, panelOf};
-ghost use Rattle.ledger.specs.OldAndNew.{KeepsWhich, NineKinds, StaysAsBefore, ForfeitsByRule, ReportsAlike, AlikeOtherwise};
+ghost use Rattle.ledger.specs.OldAndNew.{KeepsWhich, NineKinds, StaysAsBefore, ForfeitsByRule, ReportsAlike, AcceptsAlike, AlikeOtherwise};
 ghost use Rattle.ledger.specs.ConfiscatedCases.{ConfiscatedCases};
 ghost use Rattle.ledger.specs.MarkedCases.{MarkedCases};
 use crate::answers::answered;
@@ -177,6 +177,7 @@ pub fn old_stays_old()
     ensures as_before { λ r. ⌜ StaysAsBefore ⌝ }
     ensures forfeits { λ r. ⌜ ForfeitsByRule ⌝ }
     ensures reports { λ r. ⌜ ReportsAlike ⌝ }
+    ensures accepts { λ r. ⌜ AcceptsAlike ⌝ }
     ensures alike { λ r. ⌜ AlikeOtherwise ⌝ }
 {}
 

@@ -4,6 +4,7 @@ pub mod Signed
 pub mod Sizes
 pub mod Tables
 pub mod Results
+pub mod Forfeits
 pub mod Calendar
 pub mod NextDays
 pub mod Laws

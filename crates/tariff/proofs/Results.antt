@@ -9,7 +9,7 @@ use lib.IntN.{pos, _-ℤ_, _*ℤ_, natAbs}
 use Rattle.tariff.specs.Amounts.{size, opposite, percent, below}
 use Rattle.tariff.specs.Months.{sameMonth, january, march, november, december, winter, withdrawalMaximum}
 use Rattle.tariff.specs.Delivery.{retained, daysOfInjection, shareOf}
-use Rattle.tariff.specs.Closing.{carryOf, forfeitOf, withdrawalLimit}
+use Rattle.tariff.specs.Closing.{carryOf, forfeitOf, forfeitUnder, withdrawalLimit}
 use Rattle.tariff.specs.Bill.{pricesInRange, cashInCharge, cashOutCredit, atInventoryCost}
 use Rattle.tariff.specs.Structs.{Dth, Month, Prices, Quantity, Units}
 use Rattle.tariff.proofs.Percentages.{withdrawal-maximum-le}
@@ -66,6 +66,10 @@ unfolding forfeitOf
 forfeit-le m bcq bank =
     choice-le (size bank) (sameMonth m january) _ _ (excess-le bank (percent 65 bcq))
     (choice-le (size bank) (sameMonth m march) _ 0 (excess-le bank (percent 25 bcq)) (omega arith))
+
+pub part-le : (new : Bool) (confiscated excess : Quantity) → forfeitUnder new confiscated excess .0 ≤ excess .0
+unfolding forfeitUnder
+part-le new confiscated excess = choice-le (excess .0) new (min (confiscated .0) (excess .0)) (excess .0) (omega arith) (omega arith)
 
 -- ---- the bill
 

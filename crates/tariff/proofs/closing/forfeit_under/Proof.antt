@@ -2,9 +2,8 @@
 use Prim.Native.Nat.{ℕ, _≤_, min}
 use mathlib.Core.Bool.{Bool, cond}
 use mathlib.Core.Path.{_≡_}
-use native.Mathlib.Omega.{arith}
 use borrow.Author.Needs.{needs}
-use Rattle.tariff.proofs.Results.{and-bound, choice-le}
+use Rattle.tariff.proofs.Results.{and-bound, part-le}
 use Rattle.tariff.specs.Closing.{forfeitUnder}
 use Rattle.tariff.specs.Structs.{Quantity}
 use Rattle.tariff.proofs.closing.forfeit_under.Statement.{statement}
@@ -15,10 +14,6 @@ answer : (new : Bool) (confiscated excess : Quantity) (less taken : ℕ) → les
     → record { 0 = taken } ≡ forfeitUnder new confiscated excess
 unfolding forfeitUnder
 answer new confiscated excess less taken p q = cc
-
-part-le : (new : Bool) (confiscated excess : Quantity) → forfeitUnder new confiscated excess .0 ≤ excess .0
-unfolding forfeitUnder
-part-le new confiscated excess = choice-le (excess .0) new (min (confiscated .0) (excess .0)) (excess .0) (omega arith) (omega arith)
 
 returns : tie.Need-returns
 returns c = let s : tie.Start = search in and-bound (λ taken. taken .0 ≤ s .args .excess .0) (search answer) (search part-le)
