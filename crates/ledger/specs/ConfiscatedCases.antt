@@ -125,5 +125,6 @@ pub record ConfiscatedCases : Type 0 where
   pub numbers :
       (numberAfter (january false) [] (confiscated 1 600) ≡ 2)
       × (numberAfter (january true) [] (entry 11 0 1 31 600) ≡ 2)
+      × (numberAfter (january true) [] (entry 12 0 1 31 600) ≡ 2)
       × (numberAfter (january true) [] (confiscated 1 1000000001) ≡ 6)
       × (numberAfter (on false 1 31 (supplier 0 true (delivered false 1000000001))) [] (closing 1) ≡ 20)

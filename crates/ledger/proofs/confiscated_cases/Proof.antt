@@ -53,7 +53,7 @@ all-cases =
       twice = (refl, refl, refl);
       refusedClosing = (refl, refl, refl);
       offDay = (refl, refl, refl, refl, refl);
-      numbers = (refl, refl, refl, refl);
+      numbers = (refl, refl, refl, refl, refl);
     }
 
 pub confiscated-cases-spec : {M : Type 1} → statement M
