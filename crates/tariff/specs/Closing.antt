@@ -61,7 +61,7 @@ excessOver a q = inward (less a q)
 unfoldable pub carryOf : Month → Quantity → Units → Quantity
 carryOf m limit net = record { 0 = cond (winter m && not (sameMonth m march)) (excessOver (opposite net) limit .0) 0 }
 
--- R57: what lies above 65 percent of the BCQ as January closes, or above 25 percent as March closes, is lost without pay.
+-- R57: what lies above 65 percent of the BCQ as January closes, or above 25 percent as March closes: the excess, which may be lost without pay.
 unfoldable pub forfeitOf : Month → Dth → Units → Quantity
 forfeitOf m bcq bank =
     record {

@@ -113,7 +113,7 @@ pub fn carry(m: Month, limit: Quantity, net: Units) -> Quantity
     Quantity(choose(kept, beyond.0, 0))
 }
 
-// What the end of January or March takes of a bank.
+// What a bank has above the share that it may keep past January or March.
 pub fn forfeit(m: Month, bcq: Dth, bank: Units) -> Quantity
     requires { ⌜ (bcq .0 ≤ mostBcq) × (size bank ≤ 300000000000) ⌝ }
     ensures { λ r. ⌜ r ≡ forfeitOf m bcq bank ⌝ }
