@@ -1,0 +1,5 @@
+-- Laws that several proofs use: of the integers, of doubles by their exact values, of doubles that are whole, of the whole part.
+pub mod Integers
+pub mod Values
+pub mod WholeDoubles
+pub mod WholeParts
