@@ -1,5 +1,6 @@
 /*
- * The bank recorder's library: postings to a gas-bank ledger under Rider EFBS, the panel figure, and the archive.
+ * The bank recorder's library: postings to a gas-bank ledger under Rider EFBS, the panel figure, the archive, and the
+ * back-cast from the weather.
  *
  * Memory. The caller owns everything: ledgers, entries, lists, archives and outputs. The library allocates nothing,
  * keeps no pointer and no state between calls, and writes only to what it is lent as a pointer to non-const.
@@ -61,7 +62,10 @@ enum {
     NEDRULOV_SECOND_TIME = 26,      /* DELIVER or CONFISCATED was posted today, or MEASURE or USAGE this month */
     NEDRULOV_INCOMPLETE = 27,       /* closing: DELIVER, MEASURE or USAGE is missing somewhere */
     NEDRULOV_PAST_LIMIT = 28,       /* too large an opening, or a bank moved past the month's band */
-    NEDRULOV_WOULD_OVERFLOW = 29    /* a number of the ledger would go out of range */
+    NEDRULOV_WOULD_OVERFLOW = 29,   /* a number of the ledger would go out of range */
+    /* of a back-cast */
+    NEDRULOV_NOT_FINITE = 31,       /* one of the four doubles is infinite or not a number */
+    NEDRULOV_LOAD_RANGE = 32        /* the load is no number from 0 to 1,000,000,000 */
 };
 
 /* Bits of a violation mask. */
@@ -235,6 +239,30 @@ nedrulov_replay_figures nedrulov_figures(const uint8_t *archive, size_t length);
  */
 uint64_t nedrulov_year_sheet(const uint8_t *archive, size_t length, uint64_t year, int64_t *cells, size_t count);
 
+/* ---- the back-cast from the weather */
+
+/* What a supplier's customers take at a temperature; temperatures are on any one scale. */
+typedef struct {
+    double base;                    /* load at the turning temperature and above it, units */
+    double slope;                   /* units more for each degree below it */
+    double turning;                 /* the turning temperature */
+} nedrulov_load_curve;
+
+typedef struct {
+    uint64_t number;                /* 0, 31 or 32 */
+    uint64_t quantity;              /* the back-cast, units, as the word w2 of a DELIVER takes it; 0 with a refusal */
+} nedrulov_back_cast_answer;
+
+/*
+ * The greatest whole number of units not above the load: base + slope * (turning - temperature) below the turning
+ * temperature, else base; the difference, the product and the sum are each rounded to double by themselves. Any four bit
+ * patterns may be handed in. 31 if one is infinite or not a number; then 32 unless the load is a number from 0 to
+ * 1,000,000,000, which an overflow on the way is not.
+ * The processor must round to nearest and keep subnormal numbers, as every C program starts out; fesetround, or a program
+ * linked with -ffast-math, changes that.
+ */
+nedrulov_back_cast_answer nedrulov_back_cast(nedrulov_load_curve curve, double temperature);
+
 /* ---- for programs that show where a figure comes from */
 
 typedef struct {
@@ -284,6 +312,10 @@ NEDRULOV_ASSERT(terms_offset, offsetof(nedrulov_ledger, terms) == 32);
 NEDRULOV_ASSERT(accounts_offset, offsetof(nedrulov_ledger, accounts) == 80);
 NEDRULOV_ASSERT(size_of_answer, sizeof(nedrulov_answer) == 520);
 NEDRULOV_ASSERT(size_of_posted, sizeof(nedrulov_posted) == 3288);
+NEDRULOV_ASSERT(size_of_double, sizeof(double) == 8);
+NEDRULOV_ASSERT(size_of_load_curve, sizeof(nedrulov_load_curve) == 24);
+NEDRULOV_ASSERT(turning_offset, offsetof(nedrulov_load_curve, turning) == 16);
+NEDRULOV_ASSERT(size_of_back_cast_answer, sizeof(nedrulov_back_cast_answer) == 16);
 
 #ifdef __cplusplus
 }

@@ -1,5 +1,5 @@
 // The functions of the static library. A slice passes as a pointer and then a length.
-use crate::{Answer, Band, Checked, Figures, Ledger, Panel, Place, Posted, Written};
+use crate::{Answer, BackCast, Band, Checked, Figures, Ledger, LoadCurve, Panel, Place, Posted, Written};
 
 extern "C" {
     pub fn nedrulov_fresh(is_new: bool) -> Ledger;
@@ -21,4 +21,5 @@ extern "C" {
     pub fn nedrulov_year_sheet(archive: *const u8, length: usize, year: u64, cells: *mut i64, count: usize) -> u64;
     pub fn nedrulov_amount(retainage: u64, delivered: u64, back_cast: u64) -> i64;
     pub fn nedrulov_band(month: u64, bcq: u64) -> Band;
+    pub fn nedrulov_back_cast(curve: LoadCurve, temperature: f64) -> BackCast;
 }

@@ -194,6 +194,25 @@ pub struct Band {
     pub maximum: u64,
 }
 
+/// What a supplier's customers take at a temperature, in units; temperatures are on any one scale.
+#[repr(C)]
+#[derive(Clone, Copy, Debug, PartialEq)]
+pub struct LoadCurve {
+    /// The load at the turning temperature and above it.
+    pub base: f64,
+    /// Units more for each degree below it.
+    pub slope: f64,
+    pub turning: f64,
+}
+
+/// A back-cast in units, as the word w2 of a DELIVER takes it; 0 with a refusal.
+#[repr(C)]
+#[derive(Clone, Copy, Debug, PartialEq, Eq)]
+pub struct BackCast {
+    pub number: u64,
+    pub quantity: u64,
+}
+
 /// A ledger with no terms, no date and no open account, old or new.
 pub fn fresh(is_new: bool) -> Ledger {
     unsafe { ffi::nedrulov_fresh(is_new) }
@@ -270,4 +289,10 @@ pub fn amount(retainage: u64, delivered: u64, back_cast: u64) -> i64 {
 /// The least and the largest bank of a month, 1 to 12, for a BCQ in Dth; 0 and 0 where one of the two is out of its range.
 pub fn band(month: u64, bcq: u64) -> Band {
     unsafe { ffi::nedrulov_band(month, bcq) }
+}
+
+/// The greatest whole number of units not above the load at a temperature, the load's difference, product and sum each
+/// rounded to double by itself; 31 if one of the four is infinite or not a number, 32 if the load is not from 0 to 10^9.
+pub fn back_cast(curve: LoadCurve, temperature: f64) -> BackCast {
+    unsafe { ffi::nedrulov_back_cast(curve, temperature) }
 }

@@ -23,6 +23,8 @@ fn sizes() {
     assert_eq!(size_of::<Written>(), 24);
     assert_eq!(size_of::<Figures>(), 40);
     assert_eq!(size_of::<Band>(), 16);
+    assert_eq!(size_of::<LoadCurve>(), 24);
+    assert_eq!(size_of::<BackCast>(), 16);
 }
 
 #[test]
@@ -45,4 +47,7 @@ fn offsets() {
     assert_eq!(offset_of!(Ledger, date), 8);
     assert_eq!(offset_of!(Ledger, terms), 32);
     assert_eq!(offset_of!(Ledger, accounts), 80);
+    assert_eq!(offset_of!(LoadCurve, slope), 8);
+    assert_eq!(offset_of!(LoadCurve, turning), 16);
+    assert_eq!(offset_of!(BackCast, quantity), 8);
 }

@@ -14,6 +14,7 @@ ghost use Rattle.archive.specs.Writing.{written, outputAfter};
 ghost use Rattle.archive.specs.Reading.{isNew, checked, placeOf};
 ghost use Rattle.archive.specs.Replay.{figuresOf};
 ghost use Rattle.archive.specs.YearSheet.{sheetOf};
+ghost use Rattle.backcast.specs.Answers.{backCast};
 ghost use Rattle.nedrulov.specs.Cells.{cellsAfter};
 ghost use Rattle.nedrulov.specs.Amounts.{deliveryAmount};
 ghost use Rattle.nedrulov.specs.Limits.{bandOf};
@@ -22,6 +23,8 @@ use archive::Checked;
 use archive::Figures;
 use archive::Place;
 use archive::Written;
+use backcast::BackCast;
+use backcast::LoadCurve;
 use ledger::Answer;
 use ledger::Ledger;
 use ledger::Panel;
@@ -159,4 +162,12 @@ pub extern "C" fn nedrulov_band(month: u64, bcq: u64) -> Band
         minimum: 0,
         maximum: 0,
     }
+}
+
+// The back-cast of a day from its temperature, in units; 31 where one of the four is no number, 32 where the load is not from 0 to 10^9.
+#[no_mangle]
+pub extern "C" fn nedrulov_back_cast(curve: LoadCurve, temperature: f64) -> BackCast
+    ensures { λ r. ⌜ r ≡ backCast curve temperature ⌝ }
+{
+    backcast::back_cast(curve, temperature)
 }
