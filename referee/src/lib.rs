@@ -3,7 +3,8 @@
 //!
 //! From the bottom up: dates and the month's percentages, tariff arithmetic,
 //! the 32-byte entry, the ledger with its ranges and panel, the postings with
-//! the two closings, and the archive above them all.
+//! the two closings, and the archive above them all. The back-cast from the
+//! weather stands beside them, on an arithmetic of doubles of its own.
 //!
 //! Ledgers and archives are old or new. Only the new ones have CONFISCATED,
 //! and forfeit no more than it posts; one parameter carries that through.
@@ -15,8 +16,10 @@
 #![forbid(unsafe_code)]
 
 pub mod archive;
+pub mod backcast;
 pub mod calendar;
 mod closing;
+mod double;
 pub mod entry;
 pub mod ledger;
 pub mod number;
@@ -24,6 +27,7 @@ pub mod posting;
 mod tariff;
 
 pub use archive::{check, panel_line, replay, section, write, year_sheet, Replay, Written};
+pub use backcast::{back_cast, BackCast, Curve};
 pub use calendar::{Date, Month};
 pub use entry::{entry_number, Entry, Posting};
 pub use ledger::{panel, Account, Ledger, Prices, Terms};

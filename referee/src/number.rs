@@ -53,3 +53,9 @@ pub const LACKING: u64 = 27;
 pub const LIMIT: u64 = 28;
 /// A number of the ledger would go out of range.
 pub const LEAVES_RANGE: u64 = 29;
+
+/// Back-cast: base, slope, turning temperature or temperature is a NaN or an
+/// infinity.
+pub const NOT_FINITE: u64 = 31;
+/// Back-cast: the load is no number from 0 to 10^9.
+pub const LOAD: u64 = 32;

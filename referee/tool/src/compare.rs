@@ -1,8 +1,8 @@
-//! The command that compares: cases of five kinds from seeds, up to the first difference.
+//! The command that compares: cases of six kinds from seeds, up to the first difference.
 
 use crate::random::Random;
 use crate::run::{Run, Same};
-use crate::{boundaries, damage, hostile, noise, years};
+use crate::{backcasts, boundaries, damage, hostile, noise, years};
 use std::panic::{catch_unwind, AssertUnwindSafe};
 use std::time::{Duration, Instant};
 
@@ -14,7 +14,7 @@ struct Kind {
     cases: u64,
 }
 
-const KINDS: [Kind; 5] = [
+const KINDS: [Kind; 6] = [
     Kind {
         letter: "a",
         name: "valid gas years",
@@ -44,6 +44,12 @@ const KINDS: [Kind; 5] = [
         name: "random bytes",
         case: noise::case,
         cases: 200,
+    },
+    Kind {
+        letter: "f",
+        name: "back-casts",
+        case: backcasts::case,
+        cases: 50,
     },
 ];
 

@@ -18,7 +18,9 @@ pub fn month(number: u64) -> &'static str {
     MONTHS[usize::from(number != 1)]
 }
 
-const GROUPS: [(&str, Rows); 4] = [
+const NUMBERS: Columns = &["0", "31", "32"];
+
+const GROUPS: [(&str, Rows); 5] = [
     (
         "in accepted closings and elsewhere",
         &[
@@ -93,6 +95,38 @@ const GROUPS: [(&str, Rows); 4] = [
             ("year sheet not all 0", AGES),
             ("CONFISCATED accepted in a year's archive", &["new"]),
             ("one list in both", &["other figures", "other sheet"]),
+        ],
+    ),
+    (
+        "back-casts",
+        &[
+            ("any bits", NUMBERS),
+            ("numbers and others", &["0", "31"]),
+            ("at an edge", NUMBERS),
+            ("sums that round", &["0", "32"]),
+            ("whole numbers", &["0", "32"]),
+            (
+                "31 by one alone",
+                &["base", "slope", "turning", "temperature"],
+            ),
+            (
+                "load",
+                &[
+                    "-0",
+                    "just below 0",
+                    "-0.5",
+                    "just below 1",
+                    "10^9",
+                    "just above 10^9",
+                    "infinite",
+                    "no number",
+                ],
+            ),
+            ("temperature", &["at turning", "just below", "just above"]),
+            (
+                "another rounding would differ, or did",
+                &["fused", "to nearest", "subnormal product"],
+            ),
         ],
     ),
 ];

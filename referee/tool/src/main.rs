@@ -3,6 +3,7 @@
 mod accounting;
 mod amounts;
 mod archives;
+mod backcasts;
 mod both;
 mod boundaries;
 mod compare;
@@ -27,7 +28,7 @@ mod years;
 use std::process::ExitCode;
 
 const USAGE: &str =
-    "usage: referee compare [--seconds N] [--seed S] [--kind a|b|c|d|e]\n       referee race";
+    "usage: referee compare [--seconds N] [--seed S] [--kind a|b|c|d|e|f]\n       referee race";
 
 fn main() -> ExitCode {
     let words: Vec<String> = std::env::args().skip(1).collect();
