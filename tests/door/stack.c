@@ -40,6 +40,13 @@ static void *write(void *unused)
 static void *figures(void *unused) { seen = nedrulov_figures(archive, length).number; return unused; }
 static void *sheet(void *unused) { seen = nedrulov_year_sheet(archive, length, 2026, cells, NEDRULOV_CELLS); return unused; }
 
+static void *back_cast(void *unused)
+{
+    nedrulov_load_curve curve = {52000, 6175, 65};
+    seen = nedrulov_back_cast(curve, 31.7).quantity;
+    return unused;
+}
+
 /* The bytes of a painted stack that a thread has written to. */
 static size_t used(void *(*call)(void *))
 {
@@ -66,6 +73,7 @@ int main(int argc, char **argv)
     } calls[] = {
         {"fresh", fresh}, {"post", post}, {"post (closing)", closing}, {"post_by_value", by_value}, {"panel", panel},
         {"check", check}, {"place", place}, {"write", write}, {"figures", figures}, {"year_sheet", sheet},
+        {"back_cast", back_cast},
     };
     const size_t promised = 64 * 1024;
     if (argc != 2)
