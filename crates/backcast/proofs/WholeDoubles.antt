@@ -64,10 +64,11 @@ round-whole-number s k c z N p e b h =
     let w : HasValue (round binary64 s k c) s n 1 = subst (λ (x : Float). HasValue x s n 1) (sym (round-same binary64 s k c n 1 p (lit< tt) (mul-one k ∙ size))) v in
     widen b (of-value (round binary64 s k c) s n z w (sign-is s k z c p e))
 
--- a natural number as a double
-pub natural : (n : ℕ) → n ≤ 2 ^ 53 → IsWhole (Ieee.ofInt binary64 (pos n)) (pos n) n
+-- an integer as a double
+pub integer : (z : ℤ) → natAbs z ≤ 2 ^ 53 → IsWhole (Ieee.ofInt binary64 z) z (natAbs z)
 unfolding Ieee.ofInt
-natural n h = of-value (round binary64 false n 1) false n (pos n) (round-whole binary64 false n h) refl
+integer (pos n) h = of-value (round binary64 false n 1) false n (pos n) (round-whole binary64 false n h) refl
+integer (negsuc n) h = of-value (round binary64 true (suc n) 1) true (suc n) (negsuc n) (round-whole binary64 true (suc n) h) refl
 
 -- ---- a sum is rounded from a sign and a size over the common denominator
 record Rounded (s : Bool) (a : ℕ) (t : Bool) (b c : ℕ) : Type 0 where

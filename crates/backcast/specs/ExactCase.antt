@@ -1,7 +1,7 @@
 -- R93: of whole numbers that are not too large nothing is rounded, and the back-cast is that of the integers.
 use Rattle.tariff.specs.Vocabulary.{ℕ, _≤_, ℤ, pos, natAbs, _+ℤ_, _-ℤ_, _*ℤ_, leZ, ltZ, true, cond, _&&_, _≡_}
 use Rattle.tariff.specs.Bounds.{mostUnits}
-use Rattle.backcast.specs.Vocabulary.{Float}
+use Rattle.backcast.specs.Vocabulary.{Float, binary64, ofInt}
 use Rattle.backcast.specs.Structs.{BackCast, LoadCurve}
 use Rattle.backcast.specs.Doubles.{isNumber, numerator, denominator}
 use Rattle.backcast.specs.Answers.{backCast}
@@ -11,6 +11,10 @@ pub record IsWhole (x : Float) (z : ℤ) (most : ℕ) : Type 0 where
   pub isNumber : isNumber x ≡ true
   pub value : numerator x ≡ z *ℤ pos (denominator x)
   pub bounded : natAbs z ≤ most
+
+-- R93: every whole number of such a size is the value of a double, so that something is said below of all of them.
+abbrev pub WholeNumbersAreDoubles : Type 0
+WholeNumbersAreDoubles = (z : ℤ) (most : ℕ) → natAbs z ≤ most → most ≤ 100000000 → IsWhole (ofInt binary64 z) z most
 
 -- R93: the load over the integers: base, slope, turning temperature, temperature.
 unfoldable pub exactLoad : ℤ → ℤ → ℤ → ℤ → ℤ

@@ -9,7 +9,7 @@ pub use curves::LoadCurve;
 ghost use mathlib.Core.Path.{_≡_};
 ghost use Rattle.backcast.specs.Answers.{backCast};
 ghost use Rattle.backcast.specs.GreatestWhole.{EveryAnswer, OnlyOne};
-ghost use Rattle.backcast.specs.ExactCase.{WholeNumbersAreExact};
+ghost use Rattle.backcast.specs.ExactCase.{WholeNumbersAreDoubles, WholeNumbersAreExact};
 ghost use Rattle.backcast.specs.WorkedCases.{WorkedCases};
 use crate::answers::refused;
 use crate::doubles::is_quantity;
@@ -41,7 +41,8 @@ pub fn greatest_whole()
 
 // Of whole numbers the answer is that of the integers.
 pub fn exact_case()
-    ensures { λ r. ⌜ WholeNumbersAreExact ⌝ }
+    ensures doubles { λ r. ⌜ WholeNumbersAreDoubles ⌝ }
+    ensures exact { λ r. ⌜ WholeNumbersAreExact ⌝ }
 {}
 
 // Cases worked out in advance.

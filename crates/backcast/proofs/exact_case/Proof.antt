@@ -13,12 +13,12 @@ use borrow.Author.Tests.{le-leb, le-ltb}
 use Rattle.tariff.proofs.Signed.{size-product}
 use Rattle.backcast.specs.Answers.{accepted, backCast, isQuantity, refused, wholePart}
 use Rattle.backcast.specs.Doubles.{isNumber, numerator, denominator}
-use Rattle.backcast.specs.ExactCase.{Exact, IsWhole, WholeNumbersAreExact, exactLoad}
+use Rattle.backcast.specs.ExactCase.{Exact, IsWhole, WholeNumbersAreDoubles, WholeNumbersAreExact, exactLoad}
 use Rattle.backcast.specs.Load.{allNumbers, loadOf}
 use Rattle.backcast.specs.Structs.{LoadCurve}
 use Rattle.backcast.proofs.Integers.{leZ-times}
 use Rattle.backcast.proofs.Values.{denominator-pos}
-use Rattle.backcast.proofs.WholeDoubles.{below-whole, difference-whole, product-whole, sum-whole, widen}
+use Rattle.backcast.proofs.WholeDoubles.{below-whole, difference-whole, integer, product-whole, sum-whole, widen}
 use Rattle.backcast.proofs.exact_case.Statement.{statement}
 use Rattle.backcast.proofs.exact_case.Tie as tie
 
@@ -72,5 +72,8 @@ exact curve f base slope turning at b s t a =
     let z = exactLoad base slope turning at in
     rw (all-numbers curve f base slope turning at b s t a, quantity-of x z 300000000 w, whole-of x z 300000000 w) (answer z (w .bounded))
 
+doubles : WholeNumbersAreDoubles
+doubles z most h k = widen h (integer z (omega arith))
+
 pub exact-case-spec : {M : Type 1} → statement M
-exact-case-spec = tie.close (tie.spec (λ c. exact))
+exact-case-spec = tie.close (tie.spec (λ c. (doubles, exact)))

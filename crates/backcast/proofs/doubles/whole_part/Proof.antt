@@ -12,7 +12,7 @@ use lib.Ieee.{Float, binary64}
 use Rattle.backcast.specs.Answers.{isQuantity, wholePart}
 use Rattle.backcast.specs.Doubles.{numerator, denominator}
 use Rattle.backcast.proofs.Values.{denominator-pos}
-use Rattle.backcast.proofs.WholeDoubles.{natural}
+use Rattle.backcast.proofs.WholeDoubles.{integer}
 use Rattle.backcast.proofs.WholeParts.{not-below, quantity, whole-test}
 use Rattle.backcast.proofs.doubles.whole_part.Statement.{statement}
 use Rattle.backcast.proofs.doubles.whole_part.Tie as tie
@@ -33,7 +33,7 @@ module _ (x : Float) (is : isQuantity x ≡ true) where
   test : (m : ℕ) → m ≤ 1000000000 → Ieee.le (Ieee.ofInt binary64 (pos m)) x ≡ leb (m * denominator x) (natAbs (numerator x))
   test m h =
       let q = quantity x is in
-      not-below x (Ieee.ofInt binary64 (pos m)) m m (q .isNumber) (natural m (omega arith)) ∙ whole-test x q m
+      not-below x (Ieee.ofInt binary64 (pos m)) m m (q .isNumber) (integer (pos m) (omega arith)) ∙ whole-test x q m
 
   module _ (low high middle : ℕ) (b : Between x low high) (l : low < high) (e : middle ≡ high - (high - low) / 2) where
     upper-half : Ieee.le (Ieee.ofInt binary64 (pos middle)) x ≡ true → Between x middle high
