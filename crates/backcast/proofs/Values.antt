@@ -1,18 +1,16 @@
 -- Two doubles that are numbers compare as their exact values do, each numerator taken times the other's denominator.
 use Prim.Native.Nat.{ℕ, _*_, _<_}
-use native.Mathlib.Nat.{mul-one, zero-mul}
-use mathlib.Core.Bool.{Bool, true, false, _&&_, true≢false}
-use mathlib.Core.Path.{_≡_, refl, sym, ap, _∙_}
+use mathlib.Core.Bool.{Bool, true, false, true≢false}
+use mathlib.Core.Path.{_≡_, sym, ap, _∙_}
 use lib.IntN.{ℤ, pos, _*ℤ_}
 use lib.Signed.{leZ, ltZ}
 use lib.Ieee as Ieee
 use lib.Ieee.{Float, nan, inf, fin, down, up}
 use lib.Ieee.Fits.{down-pos}
 use lib.Pow.{pow-pos}
-use Rattle.tariff.specs.Bounds.{mostUnits}
-use Rattle.backcast.specs.Answers.{isQuantity}
 use Rattle.backcast.specs.Doubles.{isNumber, numerator, denominator}
-use Rattle.backcast.proofs.Integers.{below-is, level-is, signed, signed-times}
+use Rattle.backcast.proofs.Integers.{signed, signed-times}
+use Rattle.backcast.proofs.Orders.{below-is, level-is}
 
 pub denominator-pos : (x : Float) → 0 < denominator x
 unfolding denominator

@@ -1,9 +1,8 @@
 -- A sum, a difference or a product of whole doubles is a whole number; up to 2^53 it is a double, so that rounding changes nothing.
 use Prim.Native.Nat.{ℕ, zero, suc, _+_, _-_, _*_, _≤_, _<_, _^_}
-use native.Mathlib.Nat.{le-of-eq, le-trans, lt-irrefl, mul-assoc, mul-comm, mul-one, mul-pos, mul-le-mul}
+use native.Mathlib.Nat.{le-of-eq, le-trans, lt-irrefl, mul-comm, mul-one, mul-pos, mul-le-mul}
 use native.Mathlib.Omega.{arith}
-use mathlib.Core.Bool.{Bool, true, false, cond, not, _&&_, true≢false}
-use mathlib.Core.Logic.{inl, inr}
+use mathlib.Core.Bool.{Bool, true, false, not, true≢false}
 use mathlib.Core.Path.{_≡_, refl, sym, ap, _∙_, subst}
 use lib.Dec.{T, lit<, ltb, ltb→lt, nltb→le}
 use lib.IntN.{ℤ, pos, negsuc, negℤ, natAbs, _+ℤ_, _-ℤ_, _*ℤ_, negℤ-+ℤ, negℤ-negℤ, +ℤ-comm, pos-ne-negsuc}
@@ -17,7 +16,8 @@ use lib.Ieee.Scale.{round-same}
 use Rattle.tariff.proofs.Signed.{size-neg, size-product, size-sum}
 use Rattle.backcast.specs.Doubles.{isNumber, numerator, denominator}
 use Rattle.backcast.specs.ExactCase.{IsWhole}
-use Rattle.backcast.proofs.Integers.{difference-down, difference-up, ltZ-times, opposite-times, signed, signed-product, signed-size, signed-times, times-each, times-sum, times-twice}
+use Rattle.backcast.proofs.Integers.{difference-down, difference-up, opposite-times, signed, signed-product, signed-size, signed-times, times-each, times-sum, times-twice}
+use Rattle.backcast.proofs.Orders.{ltZ-times}
 use Rattle.backcast.proofs.Values.{denominator-pos, lt-value}
 
 pub widen : {x : Float} {z : ℤ} {M N : ℕ} → M ≤ N → IsWhole x z M → IsWhole x z N

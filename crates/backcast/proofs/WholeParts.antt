@@ -1,8 +1,8 @@
 -- The quotient of numerator and denominator is the greatest whole number not above their fraction.
-use Prim.Native.Nat.{ℕ, suc, _+_, _*_, _/_, _≤_, _<_}
+use Prim.Native.Nat.{ℕ, suc, _*_, _/_, _≤_}
 use native.Mathlib.Nat.{div-lt-iff-lt-mul, div-mul-le-self, le-div-iff-mul-le, le-of-mul-le-mul-right, le-trans, mul-comm, zero-mul}
 use native.Mathlib.Omega.{arith}
-use mathlib.Core.Bool.{Bool, true, false, _&&_, true≢false}
+use mathlib.Core.Bool.{true, false, _&&_, true≢false}
 use mathlib.Core.Path.{_≡_, refl, sym, ap, _∙_, subst}
 use borrow.Author.Tests.{le-leb, leb-true, lt-ltb}
 use lib.Dec.{leb}
@@ -16,7 +16,8 @@ use Rattle.backcast.specs.Answers.{isQuantity, wholePart}
 use Rattle.backcast.specs.Doubles.{isNumber, numerator, denominator}
 use Rattle.backcast.specs.ExactCase.{IsWhole}
 use Rattle.backcast.specs.GreatestWhole.{GreatestWhole}
-use Rattle.backcast.proofs.Integers.{leZ-times, times-twice}
+use Rattle.backcast.proofs.Integers.{times-twice}
+use Rattle.backcast.proofs.Orders.{leZ-times}
 use Rattle.backcast.proofs.Values.{denominator-pos, le-value}
 
 -- what a quantity of gas is: a number with a natural numerator, at most 10^9 times the denominator

@@ -2,7 +2,7 @@
 -- order meets them.
 use Rattle.tariff.specs.Vocabulary.{ℕ, pos, true, false, _≡_}
 use Rattle.backcast.specs.Vocabulary.{Float, nan, inf, fin, _^_, binary64, round}
-use Rattle.backcast.specs.Structs.{BackCast, LoadCurve}
+use Rattle.backcast.specs.Structs.{BackCast}
 use Rattle.backcast.specs.Load.{loadOf}
 use Rattle.backcast.specs.Answers.{accepted, refused, backCast}
 

@@ -1,9 +1,9 @@
 -- Below 2^53 the load of whole numbers is the integers' load, so that asking whether it is a quantity, and for its whole part, asks it of that.
-use Prim.Native.Nat.{ℕ, _*_, _/_, _≤_, _<_, _^_}
+use Prim.Native.Nat.{ℕ, _*_, _/_, _≤_, _^_}
 use native.Mathlib.Nat.{mul-div-cancel, zero-mul}
 use native.Mathlib.Omega.{arith}
 use mathlib.Core.Bool.{Bool, true, false, cond, _&&_}
-use mathlib.Core.Path.{_≡_, refl, sym, ap, _∙_, subst}
+use mathlib.Core.Path.{_≡_, refl, sym, ap, _∙_}
 use lib.Dec.{lit≤}
 use lib.IntN.{ℤ, pos, negsuc, natAbs, _+ℤ_, _-ℤ_, _*ℤ_}
 use lib.Signed.{leZ, ltZ}
@@ -12,11 +12,11 @@ use lib.Ieee.{Float, binary64}
 use borrow.Author.Tests.{le-leb, le-ltb}
 use Rattle.tariff.proofs.Signed.{size-product}
 use Rattle.backcast.specs.Answers.{accepted, backCast, isQuantity, refused, wholePart}
-use Rattle.backcast.specs.Doubles.{isNumber, numerator, denominator}
+use Rattle.backcast.specs.Doubles.{isNumber, denominator}
 use Rattle.backcast.specs.ExactCase.{Exact, IsWhole, WholeNumbersAreDoubles, WholeNumbersAreExact, exactLoad}
 use Rattle.backcast.specs.Load.{allNumbers, loadOf}
 use Rattle.backcast.specs.Structs.{LoadCurve}
-use Rattle.backcast.proofs.Integers.{leZ-times}
+use Rattle.backcast.proofs.Orders.{leZ-times}
 use Rattle.backcast.proofs.Values.{denominator-pos}
 use Rattle.backcast.proofs.WholeDoubles.{below-whole, difference-whole, integer, product-whole, sum-whole, widen}
 use Rattle.backcast.proofs.exact_case.Statement.{statement}

@@ -1,12 +1,8 @@
 -- Each answer is the definition's by its two tests; the quotient lies where a greatest whole number must, and two of these are not above each other.
 use native.Mathlib.Nat.{le-antisymm}
-use mathlib.Core.Bool.{true, false}
-use mathlib.Core.Path.{_≡_, refl}
-use lib.Ieee.{Float}
-use Rattle.backcast.specs.Answers.{accepted, backCast, isQuantity, refused, wholePart}
-use Rattle.backcast.specs.GreatestWhole.{Answered, EveryAnswer, GreatestWhole, OnlyOne}
-use Rattle.backcast.specs.Load.{allNumbers, loadOf}
-use Rattle.backcast.specs.Structs.{LoadCurve}
+use Rattle.backcast.specs.Answers.{backCast, wholePart}
+use Rattle.backcast.specs.GreatestWhole.{EveryAnswer, OnlyOne}
+use Rattle.backcast.specs.Load.{loadOf}
 use Rattle.backcast.proofs.WholeParts.{greatest, quantity, whole-le}
 use Rattle.backcast.proofs.greatest_whole.Statement.{statement}
 use Rattle.backcast.proofs.greatest_whole.Tie as tie
