@@ -4,6 +4,7 @@ use crate::archive::{self, entries, Refusal};
 use crate::arguments::{Arguments, Opt};
 use crate::failure::Failure;
 use crate::files::{self, read_archive};
+use crate::lines;
 use crate::pages;
 use crate::report::report;
 use crate::rules::Rules;
@@ -155,12 +156,11 @@ fn pack(arguments: &Arguments, out: &mut dyn Write) -> Result<(), Failure> {
 
 /// Why a text makes no archive, and what to do next.
 fn unpackable(path: &Path, fault: text::Fault) -> Failure {
-    let name = files::name(path);
+    let mend = "Mend the line; docs/TEXT-FORMAT.md has the kinds and their ranges.";
     let next = match fault {
-        text::Fault::Unreadable(error) => return files::unreadable(path, error),
-        text::Fault::Archive => {
-            let next = "pack makes one of a text, and unpack a text of it";
-            return Failure::Told(format!("{name} is an archive already: {next}."));
+        text::Fault::Text(fault) => {
+            let archive = "already: pack makes one of a text, and unpack a text of it";
+            return unreadable_text(path, fault, archive, mend);
         }
         text::Fault::Entry { number: 11, .. } => "Begin another archive.",
         // The text format knows no kind that new rules do not.
@@ -168,9 +168,19 @@ fn unpackable(path: &Path, fault: text::Fault) -> Failure {
             "It is a kind of the new rules: the text would have to begin with the line rules new; \
              efbs help rules tells of both."
         }
-        _ => "Mend the line; docs/TEXT-FORMAT.md has the kinds and their ranges.",
+        text::Fault::Entry { .. } => mend,
     };
-    Failure::Told(format!("{name}, {fault}. {next}"))
+    Failure::Told(format!("{}, {fault}. {next}", files::name(path)))
+}
+
+/// Why a text cannot be read. What to say of an archive, and how to mend a line, is the command's.
+fn unreadable_text(path: &Path, fault: lines::Fault, archive: &str, mend: &str) -> Failure {
+    let name = files::name(path);
+    match fault {
+        lines::Fault::Unreadable(error) => files::unreadable(path, error),
+        lines::Fault::Archive => Failure::Told(format!("{name} is an archive {archive}.")),
+        wrong => Failure::Told(format!("{name}, {wrong}. {mend}")),
+    }
 }
 
 /// Reads the archive that a command is about and shows it; a refusal is told with what the archive looks like.

@@ -14,6 +14,7 @@ pub mod entry;
 pub mod failure;
 pub mod files;
 pub mod form;
+pub mod lines;
 pub mod movements;
 pub mod pages;
 pub mod replay;

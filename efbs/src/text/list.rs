@@ -3,8 +3,8 @@
 use super::{Fault, RULES};
 use crate::archive::MOST_SECTIONS;
 use crate::entry::{Entry, Kind};
+use crate::lines;
 use crate::rules::Rules;
-use std::io;
 
 /// What an archive can have at most; the library has the last word.
 const MOST_BYTES: usize = u32::MAX as usize;
@@ -67,7 +67,7 @@ impl List {
             return Err(refused(TOO_MUCH));
         }
         let room = self.bytes.try_reserve(bytes.len());
-        room.map_err(|error| Fault::Unreadable(io::Error::from(error)))?;
+        room.map_err(|error| lines::Fault::Unreadable(error.into()))?;
         self.bytes.extend(bytes);
         Ok(())
     }

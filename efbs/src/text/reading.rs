@@ -1,50 +1,38 @@
 //! Text to entries.
 
 use super::{List, RULES};
-use crate::archive::opens;
 use crate::echo;
 use crate::entry::{Entry, Kind};
 use crate::form::{Flags, Form, Value};
+use crate::lines::{self, Token, Wrong};
 use crate::rules::Rules;
-use crate::shown::whole;
 use crate::words::refusal;
 use std::collections::HashSet;
 use std::fmt;
-use std::io::{self, BufRead, Read};
-
-/// With its end. An entry needs some 200 bytes at most.
-const LONGEST_LINE: usize = 1 << 16;
-/// Many times the entries that an archive can have; so an endless text of comments ends too.
-const MOST_LINES: usize = u32::MAX as usize;
+use std::io::BufRead;
 
 /// Why a text is no list of entries.
 #[derive(Debug)]
 pub enum Fault {
-    /// A place in the text, both counted from 1, and what is wrong there.
-    Text {
-        line: usize,
-        column: usize,
-        message: String,
-    },
+    Text(lines::Fault),
     /// The library refuses the entry of a line, or the list that it would make too long.
     Entry {
         line: usize,
         number: u64,
         rules: Rules,
     },
-    /// It is no text but an archive already.
-    Archive,
-    Unreadable(io::Error),
+}
+
+impl From<lines::Fault> for Fault {
+    fn from(fault: lines::Fault) -> Fault {
+        Fault::Text(fault)
+    }
 }
 
 impl fmt::Display for Fault {
     fn fmt(&self, f: &mut fmt::Formatter) -> fmt::Result {
         match self {
-            Fault::Text {
-                line,
-                column,
-                message,
-            } => write!(f, "line {line}, column {column}: {message}"),
+            Fault::Text(fault) => fault.fmt(f),
             Fault::Entry {
                 line,
                 number,
@@ -53,117 +41,25 @@ impl fmt::Display for Fault {
                 let why = refusal(*number, *rules);
                 write!(f, "line {line}: refused with {number}: {why}")
             }
-            Fault::Archive => write!(f, "an archive already"),
-            Fault::Unreadable(error) => write!(f, "{error}"),
         }
     }
 }
 
 /// The entries of a text as a list; each is one that the library takes by itself, under the rules of the text.
 pub fn read(text: impl BufRead) -> Result<List, Fault> {
-    read_lines(text, MOST_LINES)
-}
-
-fn read_lines(mut text: impl BufRead, most: usize) -> Result<List, Fault> {
     let mut list = List::default();
-    let mut bytes = Vec::new();
-    for line in 1..=most {
-        bytes.clear();
-        // One byte more than is allowed, to see that there is one.
-        let mut beginning = text.by_ref().take(LONGEST_LINE as u64 + 1);
-        let length = beginning.read_until(b'\n', &mut bytes);
-        match length.map_err(Fault::Unreadable)? {
-            0 => return Ok(list),
-            _ if line == 1 && opens(&bytes) => return Err(Fault::Archive),
-            length if length > LONGEST_LINE => return Err(too_long(line)),
-            _ => {}
-        }
-        read_line(&mut list, line, &String::from_utf8_lossy(&bytes))?;
-    }
-    Err(Fault::Text {
-        line: most,
-        column: 1,
-        message: format!("a text has at most {} lines", whole(most as u64)),
-    })
+    lines::read(text, |line, first, rest| {
+        read_line(&mut list, line, first, rest)
+    })?;
+    Ok(list)
 }
 
-fn too_long(line: usize) -> Fault {
-    let most = whole(LONGEST_LINE as u64);
-    Fault::Text {
-        line,
-        column: 1,
-        message: format!("the line has more than {most} bytes, the most that one may have"),
-    }
-}
-
-struct Wrong {
-    column: usize,
-    message: String,
-}
-
-/// A word of a line, with the column of its first character.
-struct Token<'a> {
-    column: usize,
-    text: &'a str,
-}
-
-impl Token<'_> {
-    fn end(&self) -> usize {
-        self.column + self.text.chars().count()
-    }
-
-    fn wrong(&self, message: String) -> Wrong {
-        Wrong {
-            column: self.column,
-            message,
-        }
-    }
-
-    fn expected(&self, what: &str) -> Wrong {
-        self.wrong(format!("expected {what}; found {}", echo::word(self.text)))
-    }
-
-    /// Where it is the last of its line and something has to follow.
-    fn followed_by(&self, what: &str) -> Wrong {
-        Wrong {
-            column: self.end() + 1,
-            message: format!("expected {what}"),
-        }
-    }
-}
-
-/// Up to a comment, which begins with # at the start of the line or after a blank.
-fn tokens(line: &str) -> Vec<Token<'_>> {
-    // Some editors begin a file with a mark of its encoding.
-    let line = line.strip_prefix('\u{feff}').unwrap_or(line);
-    let mut found = Vec::new();
-    let mut column = 1;
-    for text in line.split([' ', '\t', '\r', '\n']) {
-        if text.starts_with('#') {
-            break;
-        }
-        if !text.is_empty() {
-            found.push(Token { column, text });
-        }
-        column += text.chars().count() + 1;
-    }
-    found
-}
-
-/// Takes what a line has, if it has anything: the rules or an entry.
-fn read_line(list: &mut List, line: usize, content: &str) -> Result<(), Fault> {
-    let in_line = |wrong: Wrong| Fault::Text {
-        line,
-        column: wrong.column,
-        message: wrong.message,
-    };
-    let tokens = tokens(content);
-    match tokens.split_first() {
-        None => Ok(()),
-        Some((first, rest)) if first.text == RULES => {
-            read_rules(list, first, rest).map_err(in_line)
-        }
-        Some((first, rest)) => list.add(line, &read_entry(first, rest).map_err(in_line)?),
+/// Takes what a line has: the rules or an entry.
+fn read_line(list: &mut List, line: usize, first: &Token, rest: &[Token]) -> Result<(), Fault> {
+    let in_line = |wrong: Wrong| wrong.in_line(line);
+    match first.text == RULES {
+        true => Ok(read_rules(list, first, rest).map_err(in_line)?),
+        false => list.add(line, &read_entry(first, rest).map_err(in_line)?),
     }
 }
 
@@ -299,35 +195,20 @@ fn nothing_missing(form: &Form, seen: &HashSet<&str>, end: usize) -> Result<(), 
 #[cfg(test)]
 mod tests {
     use super::*;
-    use crate::archive::OPENINGS;
 
-    const LINE: &[u8] = b"2026-04-01 close-day\n";
-
-    #[test]
-    fn endless_texts_end() {
-        let zeros = io::BufReader::new(io::repeat(0));
-        assert!(matches!(read(zeros), Err(Fault::Text { line: 1, .. })));
-        let comments = io::BufReader::new(io::repeat(b'\n'));
-        let ended = read_lines(comments, 5_000);
-        assert!(matches!(ended, Err(Fault::Text { line: 5_000, .. })));
-    }
-
-    #[test]
-    fn the_longest_line() {
-        let comment = |length: usize| [LINE, &vec![b'#'; length - 1], b"\n", LINE].concat();
-        let lists = [LONGEST_LINE, LONGEST_LINE + 1].map(|length| read(&comment(length)[..]));
-        assert!(matches!(&lists[0], Ok(list) if list.bytes().len() == 64));
-        assert!(matches!(&lists[1], Err(Fault::Text { line: 2, .. })));
+    /// Line and column of what is wrong in a text.
+    fn told(text: &[u8]) -> Option<(usize, usize)> {
+        match read(text) {
+            Err(Fault::Text(lines::Fault::Wrong { line, wrong })) => Some((line, wrong.column)),
+            _ => None,
+        }
     }
 
     #[test]
     fn archives_are_no_texts() {
-        for opening in OPENINGS {
-            let archive = [opening, &[0; 4]].concat();
-            assert!(matches!(read(&archive[..]), Err(Fault::Archive)));
-            let later = [LINE, opening].concat();
-            assert!(matches!(read(&later[..]), Err(Fault::Text { line: 2, .. })));
-        }
+        let archive = read(&b"EFB1\0\0\0\0"[..]);
+        assert!(matches!(archive, Err(Fault::Text(lines::Fault::Archive))));
+        assert_eq!(told(b"2026-04-01 close-day\nEFB1"), Some((2, 1)));
     }
 
     #[test]
@@ -357,11 +238,7 @@ mod tests {
             ("rules new\n\n  rules new\n", (3, 3)),
             ("2026-04-01 close-day\nrules old\n", (2, 1)),
         ] {
-            let told = match read(text.as_bytes()) {
-                Err(Fault::Text { line, column, .. }) => (line, column),
-                _ => (0, 0),
-            };
-            assert_eq!(told, place, "{text}");
+            assert_eq!(told(text.as_bytes()), Some(place), "{text}");
         }
     }
 }
