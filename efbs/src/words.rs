@@ -32,6 +32,8 @@ pub fn refusal(number: u64, rules: Rules) -> &'static str {
         27 => "an open account still lacks its delivery, measurement or usage",
         28 => "the opening, transfer or trade would pass its limit",
         29 => "a number in the ledger would leave its range",
+        31 => "a number of the load curve, or the temperature, is not finite",
+        32 => "the load is no number from 0 to 10,000,000.00 Dth",
         _ => "no number of this ledger",
     }
 }
@@ -94,10 +96,11 @@ mod tests {
     fn every_number_has_words_of_its_own() {
         for rules in Rules::ALL {
             let refusal = |number| refusal(number, rules);
-            let words: Vec<_> = (1..=13).chain(20..=29).map(refusal).collect();
+            let numbers = (1..=13).chain(20..=29).chain(31..=32);
+            let words: Vec<_> = numbers.map(refusal).collect();
             let different: HashSet<_> = words.iter().collect();
-            assert_eq!(different.len(), 23);
-            for number in [0, 14, 19, 30, u64::MAX] {
+            assert_eq!(different.len(), 25);
+            for number in [0, 14, 19, 30, 33, u64::MAX] {
                 assert!(!words.contains(&refusal(number)), "{number}");
             }
             assert!(refusal(1).contains("32 bytes"));
