@@ -8,6 +8,7 @@ pub mod arguments;
 pub mod calendar;
 pub mod cli;
 pub mod command;
+pub mod decimal;
 pub mod diagnosis;
 pub mod echo;
 pub mod entry;
