@@ -8,6 +8,25 @@ use std::ffi::{OsStr, OsString};
 use std::os::unix::ffi::OsStrExt;
 use std::path::Path;
 
+/// The names of what stands beside options: of words that must be there, and of one that may follow any number of times.
+pub struct Operands {
+    pub each: &'static [&'static str],
+    pub more: Option<&'static str>,
+}
+
+impl Operands {
+    pub const fn each(each: &'static [&'static str]) -> Operands {
+        Operands { each, more: None }
+    }
+
+    pub const fn any(name: &'static str) -> Operands {
+        Operands {
+            each: &[],
+            more: Some(name),
+        }
+    }
+}
+
 /// An option with its name and, if it takes one, the name of its value.
 pub struct Opt {
     pub name: &'static str,
@@ -27,6 +46,18 @@ fn divided(word: &OsStr) -> (&OsStr, Option<OsString>) {
     }
 }
 
+/// Whether a word is an option, or the -- that ends them; a number below zero is neither.
+fn is_option(word: &OsStr) -> bool {
+    match word.as_bytes() {
+        [b'-', next, ..] => !next.is_ascii_digit() && *next != b'.',
+        _ => false,
+    }
+}
+
+fn missing(name: &str) -> Failure {
+    Failure::Usage(format!("{name} is missing"))
+}
+
 #[derive(Default)]
 pub struct Arguments {
     operands: Vec<OsString>,
@@ -37,17 +68,16 @@ impl Arguments {
     /// Options may stand before, between and after operands; `--` ends them.
     pub fn parse(
         words: &[OsString],
-        operands: &[&str],
+        operands: &Operands,
         options: &'static [Opt],
     ) -> Result<Arguments, Failure> {
         let mut found = Arguments::default();
         let mut words = words.iter();
         let mut ended = false;
         while let Some(word) = words.next() {
-            let text = word.to_string_lossy();
-            if ended || text == "-" || !text.starts_with('-') {
+            if ended || !is_option(word) {
                 found.operands.push(word.clone());
-            } else if text == "--" {
+            } else if word == "--" {
                 ended = true;
             } else {
                 found.add_option(word, &mut words, options)?;
@@ -85,19 +115,20 @@ impl Arguments {
         Ok(())
     }
 
-    fn complete(self, operands: &[&str], options: &[Opt]) -> Result<Arguments, Failure> {
-        if let Some(extra) = self.operands.get(operands.len()) {
+    fn complete(self, operands: &Operands, options: &[Opt]) -> Result<Arguments, Failure> {
+        let Operands { each, more } = operands;
+        if let (Some(extra), None) = (self.operands.get(each.len()), more) {
             let extra = echo::word(extra);
             return Err(Failure::Usage(format!("{extra} is one word too many")));
         }
-        if let Some(missing) = operands.get(self.operands.len()) {
-            return Err(Failure::Usage(format!("{missing} is missing")));
+        if let Some(operand) = each.get(self.operands.len()) {
+            return Err(missing(operand));
         }
         match options
             .iter()
             .find(|option| option.required && !self.has(option.name))
         {
-            Some(option) => Err(Failure::Usage(format!("{} is missing", option.name))),
+            Some(option) => Err(missing(option.name)),
             None => Ok(self),
         }
     }
@@ -110,8 +141,12 @@ impl Arguments {
         Path::new(&self.operands[operand])
     }
 
+    pub fn file(&self, option: &str) -> Option<&Path> {
+        self.value(option).map(Path::new)
+    }
+
     pub fn output(&self) -> Option<&Path> {
-        self.value("-o").map(Path::new)
+        self.file("-o")
     }
 
     pub fn account(&self) -> Result<Option<usize>, Failure> {
@@ -153,5 +188,74 @@ impl Arguments {
                 echo::word(text)
             ))),
         }
+    }
+}
+
+#[cfg(test)]
+mod tests {
+    use super::*;
+
+    const OPTIONS: &[Opt] = &[
+        Opt {
+            name: "-o",
+            value: Some("FILE"),
+            required: false,
+        },
+        Opt {
+            name: "--csv",
+            value: None,
+            required: false,
+        },
+    ];
+
+    /// Operands and the value after -o, or why there are none.
+    fn parsed(line: &str, operands: Operands) -> Result<(Vec<OsString>, Option<OsString>), String> {
+        let words: Vec<OsString> = line.split(' ').map(OsString::from).collect();
+        match Arguments::parse(&words, &operands, OPTIONS) {
+            Ok(found) => Ok((found.operands.clone(), found.value("-o").cloned())),
+            Err(Failure::Usage(why)) => Err(why),
+            Err(_) => Err("no usage".to_string()),
+        }
+    }
+
+    #[test]
+    fn numbers_below_zero_are_operands() {
+        for (line, operands, value) in [
+            ("-5 --csv -3.5 31.7", "-5 -3.5 31.7", None),
+            ("-.5 - -5x -0", "-.5 - -5x -0", None),
+            ("-1 -o -2 -3", "-1 -3", Some("-2")),
+            (
+                "-1 -o=-2 -- -3 --csv -o --",
+                "-1 -3 --csv -o --",
+                Some("-2"),
+            ),
+        ] {
+            let operands = operands.split(' ').map(OsString::from).collect();
+            let found = parsed(line, Operands::any("N"));
+            assert_eq!(found, Ok((operands, value.map(OsString::from))), "{line}");
+        }
+    }
+
+    #[test]
+    fn other_words_with_a_dash_are_options() {
+        for word in ["-x", "---", "--5", "-o5", "-\u{663}", "-,5", "-+5", "-e"] {
+            let unknown = Err(format!("unknown option {word}"));
+            assert_eq!(parsed(word, Operands::any("N")), unknown);
+        }
+    }
+
+    #[test]
+    fn operands_are_counted() {
+        let two = || Operands::each(&["A", "B"]);
+        assert_eq!(parsed("-1", two()), Err("B is missing".to_string()));
+        assert!(parsed("-1 2", two()).is_ok());
+        let third = Err("\"-3\" is one word too many".to_string());
+        assert_eq!(parsed("1 2 -3", two()), third);
+        let two_and_more = Operands {
+            more: Some("C"),
+            ..two()
+        };
+        assert!(parsed("1 2 3 4", two_and_more).is_ok());
+        assert!(parsed("--csv", Operands::any("N")).is_ok());
     }
 }

@@ -1,7 +1,7 @@
 //! From the words of the command line to an exit status: 0 done, 1 refused or failed, 2 asked for in a wrong way.
 
 use crate::archive::Refusal;
-use crate::arguments::{Arguments, Opt};
+use crate::arguments::{Arguments, Operands, Opt};
 use crate::command::{Command, COMMANDS};
 use crate::echo;
 use crate::failure::Failure;
@@ -46,20 +46,23 @@ fn help_on(name: &OsStr) -> u8 {
 }
 
 fn run_command(command: &Command, words: &[OsString]) -> u8 {
-    let arguments = match Arguments::parse(words, command.operands, command.options) {
+    let arguments = match Arguments::parse(words, &command.operands, command.options) {
         Ok(arguments) => arguments,
         Err(failure) => return tell(command, "", failure),
     };
-    let (input, output) = (arguments.path(0), arguments.output());
+    let (input, output) = ((command.input)(&arguments), arguments.output());
     let write = |out: files::Writer| (command.run)(&arguments, out);
     let done = files::refuse_same(input, output).and_then(|()| files::write(output, write));
     match done {
         Ok(()) => DONE,
-        Err(failure) => tell(command, &files::name(input), failure),
+        Err(failure) => {
+            let name = input.map(files::name).unwrap_or_default();
+            tell(command, &name, failure)
+        }
     }
 }
 
-/// Says why a command failed on a file.
+/// Says why a command failed on a file, if it reads one.
 fn tell(command: &Command, file: &str, failure: Failure) -> u8 {
     match failure {
         Failure::Usage(message) => wrong_use(&message, &format!("efbs {} --help", command.name)),
@@ -145,14 +148,17 @@ fn help(command: &Command) -> String {
     format!("{}\n\n{about}.\n{}\n", usage(command), command.help)
 }
 
+/// What must be there, then what may be.
 fn usage(command: &Command) -> String {
-    let operands = command.operands.iter().map(|operand| format!(" {operand}"));
-    let options = command.options.iter().map(|option| match option.required {
-        true => format!(" {}", spelt(option)),
-        false => format!(" [{}]", spelt(option)),
-    });
-    let rest: String = operands.chain(options).collect();
-    format!("efbs {}{rest}", command.name)
+    let Operands { each, more } = &command.operands;
+    let (must, may): (Vec<&Opt>, Vec<&Opt>) =
+        command.options.iter().partition(|option| option.required);
+    let mut words = vec!["efbs".to_string(), command.name.to_string()];
+    words.extend(each.iter().map(|operand| operand.to_string()));
+    words.extend(must.into_iter().map(spelt));
+    words.extend(more.map(|operand| format!("[{operand}...]")));
+    words.extend(may.into_iter().map(|option| format!("[{}]", spelt(option))));
+    words.join(" ")
 }
 
 fn spelt(option: &Opt) -> String {

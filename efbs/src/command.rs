@@ -1,7 +1,7 @@
 //! The commands: their names, what they take, what they do.
 
 use crate::archive::{self, entries, Refusal};
-use crate::arguments::{Arguments, Opt};
+use crate::arguments::{Arguments, Operands, Opt};
 use crate::failure::Failure;
 use crate::files::{self, read_archive};
 use crate::lines;
@@ -14,8 +14,10 @@ use std::path::Path;
 
 pub struct Command {
     pub name: &'static str,
-    pub operands: &'static [&'static str],
+    pub operands: Operands,
     pub options: &'static [Opt],
+    /// The file that it reads, if it reads one.
+    pub input: fn(&Arguments) -> Option<&Path>,
     /// One line for the list of commands.
     pub about: &'static str,
     /// More, for the command's own help.
@@ -23,7 +25,8 @@ pub struct Command {
     pub run: fn(&Arguments, &mut dyn Write) -> Result<(), Failure>,
 }
 
-const ARCHIVE: &[&str] = &["A.efb"];
+const ARCHIVE: Operands = Operands::each(&["A.efb"]);
+const ARCHIVE_AND_YEAR: Operands = Operands::each(&["A.efb", "YEAR"]);
 
 const ACCOUNT: Opt = Opt {
     name: "--account",
@@ -51,8 +54,9 @@ pub const COMMANDS: [Command; 8] = [PACK, UNPACK, PANEL, LOG, STATEMENT, JOURNAL
 
 const PACK: Command = Command {
     name: "pack",
-    operands: &["FILE.txt"],
+    operands: Operands::each(&["FILE.txt"]),
     options: &[output("A.efb", true)],
+    input: first_operand,
     about: "make an archive of entries written as text",
     help: "\
 The text has one entry a line; docs/TEXT-FORMAT.md describes it, and unpack shows it.
@@ -65,6 +69,7 @@ const UNPACK: Command = Command {
     name: "unpack",
     operands: ARCHIVE,
     options: &[output("FILE.txt", false)],
+    input: first_operand,
     about: "write an archive's entries as text",
     help: "Packed again, the text gives the same archive, byte for byte.",
     run: unpack,
@@ -74,6 +79,7 @@ const PANEL: Command = Command {
     name: "panel",
     operands: ARCHIVE,
     options: &[],
+    input: first_operand,
     about: "the panel's line: entries accepted, entries refused, total gas in bank",
     help: "\
 The gas is in hundredths of a Dth. Of a refused archive the line is the word archive, the number of the refusal and the
@@ -85,6 +91,7 @@ const LOG: Command = Command {
     name: "log",
     operands: ARCHIVE,
     options: &[ACCOUNT, flag("--refused")],
+    input: first_operand,
     about: "each entry in words with its answer",
     help: "\
 A line has the entry's index in the archive, counted from 0, its date, the answer and the entry; a closing is followed
@@ -105,6 +112,7 @@ const STATEMENT: Command = Command {
             required: false,
         },
     ],
+    input: first_operand,
     about: "each supplier's bank, bills and violation days, added up",
     help: "\
 The sums are made of accepted entries and reported closings alone and stand beside the ledger's own figures. Exit
@@ -118,6 +126,7 @@ const JOURNAL: Command = Command {
     name: "journal",
     operands: ARCHIVE,
     options: &[],
+    input: first_operand,
     about: "the movements as a journal for hledger or ledger",
     help: "\
 One transaction for each movement of gas and each bill, and after each month the ledger's balances as assertions.
@@ -127,8 +136,9 @@ Try: efbs journal A.efb > a.journal; hledger -f a.journal balance supplier; ledg
 
 const SHEET: Command = Command {
     name: "sheet",
-    operands: &["A.efb", "YEAR"],
+    operands: ARCHIVE_AND_YEAR,
     options: &[flag("--csv")],
+    input: first_operand,
     about: "banks after each month of the gas year that begins in April of YEAR",
     help: "\
 In Dth, a row for every account that the archive ever enrolls. A dash stands where a month is not closed or an account
@@ -139,12 +149,17 @@ not yet enrolled.
 
 const REPORT: Command = Command {
     name: "report",
-    operands: &["A.efb", "YEAR"],
+    operands: ARCHIVE_AND_YEAR,
     options: &[output("report.html", false)],
+    input: first_operand,
     about: "a page with the gas year that begins in April of YEAR",
     help: "The page is one file and needs no other; any browser shows it.",
     run: write_report,
 };
+
+fn first_operand(arguments: &Arguments) -> Option<&Path> {
+    Some(arguments.path(0))
+}
 
 fn pack(arguments: &Arguments, out: &mut dyn Write) -> Result<(), Failure> {
     let path = arguments.path(0);

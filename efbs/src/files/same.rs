@@ -8,8 +8,11 @@ use std::io;
 use std::os::unix::fs::{FileTypeExt, MetadataExt};
 use std::path::Path;
 
-/// An output that is the input is refused before anything is written. None stands for standard output.
-pub fn refuse_same(input: &Path, output: Option<&Path>) -> Result<(), Failure> {
+/// An output that is the input is refused before anything is written. None stands for no input, and for standard output.
+pub fn refuse_same(input: Option<&Path>, output: Option<&Path>) -> Result<(), Failure> {
+    let Some(input) = input else {
+        return Ok(());
+    };
     let outgoing = match output {
         Some(path) if !is_standard(path) => fs::metadata(path),
         _ => standard::output_metadata(),
