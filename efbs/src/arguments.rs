@@ -1,5 +1,6 @@
 //! A command's operands and options, taken from the words after its name.
 
+use crate::decimal::{self, Decimal};
 use crate::echo;
 use crate::entry::Day;
 use crate::failure::Failure;
@@ -8,7 +9,7 @@ use std::ffi::{OsStr, OsString};
 use std::os::unix::ffi::OsStrExt;
 use std::path::Path;
 
-/// The names of what stands beside options: of words that must be there, and of one that may follow any number of times.
+/// What stands beside options, by name: words that must be there, and one that may follow any number of times.
 pub struct Operands {
     pub each: &'static [&'static str],
     pub more: Option<&'static str>,
@@ -56,6 +57,12 @@ fn is_option(word: &OsStr) -> bool {
 
 fn missing(name: &str) -> Failure {
     Failure::Usage(format!("{name} is missing"))
+}
+
+fn temperature(word: &OsString) -> Result<Decimal<'_>, Failure> {
+    let wrong = || format!("{} is not {}", echo::word(word), decimal::EXPECTED);
+    let number = word.to_str().and_then(Decimal::degrees);
+    number.ok_or_else(|| Failure::Usage(wrong()))
 }
 
 #[derive(Default)]
@@ -149,6 +156,23 @@ impl Arguments {
         self.file("-o")
     }
 
+    /// Dth, of an option that must be there.
+    pub fn dth(&self, option: &str) -> Result<Decimal<'_>, Failure> {
+        let dth = self.read(option, decimal::EXPECTED, Decimal::dth)?;
+        dth.ok_or_else(|| missing(option))
+    }
+
+    /// Degrees, of an option that must be there.
+    pub fn degrees(&self, option: &str) -> Result<Decimal<'_>, Failure> {
+        let degrees = self.read(option, decimal::EXPECTED, Decimal::degrees)?;
+        degrees.ok_or_else(|| missing(option))
+    }
+
+    /// The operands, each in degrees.
+    pub fn temperatures(&self) -> Result<Vec<Decimal<'_>>, Failure> {
+        self.operands.iter().map(temperature).collect()
+    }
+
     pub fn account(&self) -> Result<Option<usize>, Failure> {
         let read = |text: &str| text.parse().ok().filter(|account| *account < ACCOUNTS);
         self.read("--account", "an account from 0 to 15", read)
@@ -172,16 +196,16 @@ impl Arguments {
         found.map(|(_, value)| value)
     }
 
-    fn read<T>(
-        &self,
+    fn read<'a, T>(
+        &'a self,
         option: &str,
         expected: &str,
-        read: impl Fn(&str) -> Option<T>,
+        read: impl Fn(&'a str) -> Option<T>,
     ) -> Result<Option<T>, Failure> {
         let Some(text) = self.value(option) else {
             return Ok(None);
         };
-        match read(&text.to_string_lossy()) {
+        match text.to_str().and_then(read) {
             Some(value) => Ok(Some(value)),
             None => Err(Failure::Usage(format!(
                 "{option} needs {expected}, not {}",

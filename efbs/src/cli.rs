@@ -129,8 +129,9 @@ fn say(text: &str) -> u8 {
 }
 
 fn overview() -> String {
-    let mut text =
-        String::from("efbs reads, shows and converts archives of the bank recorder.\n\n");
+    let mut text = String::from(
+        "efbs reads, shows and converts archives of the bank recorder, and works out back-casts for them.\n\n",
+    );
     for command in &COMMANDS {
         text += &format!("  {}\n      {}\n", usage(command), command.about);
     }

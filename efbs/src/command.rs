@@ -2,10 +2,12 @@
 
 use crate::archive::{self, entries, Refusal};
 use crate::arguments::{Arguments, Operands, Opt};
+use crate::curve::Curve;
 use crate::failure::Failure;
 use crate::files::{self, read_archive};
 use crate::lines;
 use crate::pages;
+use crate::readings::Readings;
 use crate::report::report;
 use crate::rules::Rules;
 use crate::text;
@@ -34,11 +36,25 @@ const ACCOUNT: Opt = Opt {
     required: false,
 };
 
+const BASE: &str = "--base";
+const SLOPE: &str = "--slope";
+const TURNING: &str = "--turning";
+const TEMPERATURES: &str = "--temperatures";
+const CSV: &str = "--csv";
+
 const fn flag(name: &'static str) -> Opt {
     Opt {
         name,
         value: None,
         required: false,
+    }
+}
+
+const fn needed(name: &'static str, value: &'static str) -> Opt {
+    Opt {
+        name,
+        value: Some(value),
+        required: true,
     }
 }
 
@@ -50,7 +66,9 @@ const fn output(file: &'static str, required: bool) -> Opt {
     }
 }
 
-pub const COMMANDS: [Command; 8] = [PACK, UNPACK, PANEL, LOG, STATEMENT, JOURNAL, SHEET, REPORT];
+pub const COMMANDS: [Command; 9] = [
+    PACK, UNPACK, PANEL, LOG, STATEMENT, JOURNAL, SHEET, REPORT, BACKCAST,
+];
 
 const PACK: Command = Command {
     name: "pack",
@@ -137,7 +155,7 @@ Try: efbs journal A.efb > a.journal; hledger -f a.journal balance supplier; ledg
 const SHEET: Command = Command {
     name: "sheet",
     operands: ARCHIVE_AND_YEAR,
-    options: &[flag("--csv")],
+    options: &[flag(CSV)],
     input: first_operand,
     about: "banks after each month of the gas year that begins in April of YEAR",
     help: "\
@@ -157,8 +175,46 @@ const REPORT: Command = Command {
     run: write_report,
 };
 
+const BACKCAST: Command = Command {
+    name: "backcast",
+    operands: Operands::any("TEMPERATURE"),
+    options: &[
+        needed(BASE, "DTH"),
+        needed(SLOPE, "DTH"),
+        needed(TURNING, "DEGREES"),
+        Opt {
+            name: TEMPERATURES,
+            value: Some("FILE"),
+            required: false,
+        },
+        flag(CSV),
+    ],
+    input: temperatures_file,
+    about: "the back-cast of a load curve at each temperature",
+    help: "\
+In Dth with two decimals, as a deliver line has it after back-cast=; first for the temperatures of the command line,
+then for those of the file. At the turning temperature and above the load is the base, below it the base and the slope
+times the degrees below. Exit status 1 if a temperature is refused; the others are shown all the same.
+  --base DTH            the load at the turning temperature and above
+  --slope DTH           how much more it is for each degree below
+  --turning DEGREES     the turning temperature; it and the others are on one scale, whichever that is
+  --temperatures FILE   a line has a temperature, or a label of one word and a temperature; # begins a comment
+  --csv                 values separated by commas, below a line of names; the number is 0, or that of the refusal
+                        beside an empty back-cast
+The degrees below, their product with the slope and the sum are worked out in double precision and each is rounded by
+itself; the load is then cut down to whole hundredths of a Dth. So 10 Dth a degree from 22.4 to 22.2 degrees give
+1.99 Dth and not 2.00.
+Try: efbs backcast --base 520 --slope 61.75 --turning 65 31.7
+It shows 2576.27, for a line such as: 2026-12-01 deliver account=0 delivered=2600.00 back-cast=2576.27",
+    run: backcast,
+};
+
 fn first_operand(arguments: &Arguments) -> Option<&Path> {
     Some(arguments.path(0))
+}
+
+fn temperatures_file(arguments: &Arguments) -> Option<&Path> {
+    arguments.file(TEMPERATURES)
 }
 
 fn pack(arguments: &Arguments, out: &mut dyn Write) -> Result<(), Failure> {
@@ -247,7 +303,7 @@ fn journal(arguments: &Arguments, out: &mut dyn Write) -> Result<(), Failure> {
 }
 
 fn sheet(arguments: &Arguments, out: &mut dyn Write) -> Result<(), Failure> {
-    let (year, csv) = (arguments.year(1)?, arguments.has("--csv"));
+    let (year, csv) = (arguments.year(1)?, arguments.has(CSV));
     of_archive(arguments, |archive| {
         pages::sheet::write(archive, year, csv, out)
     })
@@ -258,4 +314,40 @@ fn write_report(arguments: &Arguments, out: &mut dyn Write) -> Result<(), Failur
     of_archive(arguments, |archive| {
         Ok(out.write_all(report(archive, year)?.as_bytes())?)
     })
+}
+
+fn backcast(arguments: &Arguments, out: &mut dyn Write) -> Result<(), Failure> {
+    let curve = Curve {
+        base: arguments.dth(BASE)?,
+        slope: arguments.dth(SLOPE)?,
+        turning: arguments.degrees(TURNING)?,
+    };
+    let readings = readings(arguments)?;
+    pages::backcast::write(&curve, &readings, arguments.has(CSV), out)
+}
+
+fn readings(arguments: &Arguments) -> Result<Readings, Failure> {
+    let mut readings = Readings::of(&arguments.temperatures()?);
+    let file = temperatures_file(arguments);
+    if let Some(path) = file {
+        let text = BufReader::new(files::open(path)?);
+        let read = readings.read(text);
+        read.map_err(|fault| no_readings(path, fault))?;
+    }
+    match (readings.is_empty(), file) {
+        (false, _) => Ok(readings),
+        (true, Some(path)) => Err(Failure::Usage(format!(
+            "there is no temperature in {}, and none beside it",
+            files::name(path)
+        ))),
+        (true, None) => Err(Failure::Usage(format!(
+            "TEMPERATURE or {TEMPERATURES} is missing"
+        ))),
+    }
+}
+
+fn no_readings(path: &Path, fault: lines::Fault) -> Failure {
+    let archive = "and has no temperatures: name a text with one a line";
+    let mend = "Mend the line; it has a temperature, or a label of one word and a temperature.";
+    unreadable_text(path, fault, archive, mend)
 }

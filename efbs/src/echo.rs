@@ -6,6 +6,8 @@ use std::path::Path;
 
 const WORD: usize = 60;
 const PATH: usize = 300;
+const APOSTROPHE: [char; 1] = ['\''];
+const QUOTES: [char; 3] = ['\'', '"', '\\'];
 
 /// A word in quotes.
 pub fn word(text: impl AsRef<OsStr>) -> String {
@@ -14,19 +16,30 @@ pub fn word(text: impl AsRef<OsStr>) -> String {
 
 /// A name or number that stands without quotes.
 pub fn bare(text: impl AsRef<OsStr>) -> String {
-    escaped(text.as_ref().as_bytes(), WORD)
+    escaped(text.as_ref().as_bytes(), WORD, &APOSTROPHE)
+}
+
+/// A word of a table, where quotes and backslashes mean nothing.
+pub fn cell(text: &str) -> String {
+    escaped(text.as_bytes(), WORD, &QUOTES)
+}
+
+/// The same for other programs to read: all of it.
+pub fn uncut(text: &str) -> String {
+    escaped(text.as_bytes(), usize::MAX, &QUOTES)
 }
 
 /// The name of a file; an empty one is shown too.
 pub fn path(path: &Path) -> String {
     match path.as_os_str().is_empty() {
         true => word(path),
-        false => escaped(path.as_os_str().as_bytes(), PATH),
+        false => escaped(path.as_os_str().as_bytes(), PATH, &APOSTROPHE),
     }
 }
 
-/// The first `most` characters; what does not print is written as Rust writes it, a byte that is no UTF-8 as \xff.
-fn escaped(bytes: &[u8], most: usize) -> String {
+/// The first `most` characters; what does not print is written as Rust writes it, a byte that is no UTF-8 as \xff. Of
+/// what prints Rust escapes quotes and the backslash; those in `kept` stay.
+fn escaped(bytes: &[u8], most: usize, kept: &[char]) -> String {
     let mut out = String::new();
     let mut room = most;
     for chunk in bytes.utf8_chunks() {
@@ -35,9 +48,9 @@ fn escaped(bytes: &[u8], most: usize) -> String {
                 return out + "…";
             }
             room -= 1;
-            match character {
-                '\'' => out.push('\''),
-                _ => out.extend(character.escape_debug()),
+            match kept.contains(&character) {
+                true => out.push(character),
+                false => out.extend(character.escape_debug()),
             }
         }
         for byte in chunk.invalid() {
@@ -82,6 +95,18 @@ mod tests {
         assert_eq!(word(bytes), "\"a\\xff\\xc3b\"");
         assert_eq!(path(Path::new(bytes)), "a\\xff\\xc3b");
         assert_eq!(path(Path::new("")), "\"\"");
+        for shown in [cell, uncut] {
+            assert_eq!(shown("\u{1b}[2J\n\u{202e}"), "\\u{1b}[2J\\n\\u{202e}");
+        }
+    }
+
+    #[test]
+    fn cells_keep_what_prints() {
+        let text = "it's_6\",C:\\é";
+        assert_eq!(cell(text), text);
+        let long = text.repeat(1_000);
+        assert_eq!(uncut(&long), long);
+        assert_eq!(cell(&long).chars().count(), WORD + 1);
     }
 
     #[test]

@@ -36,6 +36,7 @@ pub fn name(path: &Path) -> String {
 pub fn unreadable(path: &Path, error: io::Error) -> Failure {
     let next = match error.kind() {
         ErrorKind::OutOfMemory => "It is too large for this machine.",
+        ErrorKind::FileTooLarge => "Divide it.",
         _ => "Check its name and who may read it.",
     };
     Failure::Told(format!("{} cannot be read: {error}. {next}", name(path)))

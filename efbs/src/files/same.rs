@@ -8,7 +8,7 @@ use std::io;
 use std::os::unix::fs::{FileTypeExt, MetadataExt};
 use std::path::Path;
 
-/// An output that is the input is refused before anything is written. None stands for no input, and for standard output.
+/// An output that is the input is refused before anything is written. None stands for no input, or standard output.
 pub fn refuse_same(input: Option<&Path>, output: Option<&Path>) -> Result<(), Failure> {
     let Some(input) = input else {
         return Ok(());

@@ -1,5 +1,6 @@
-//! What the commands write, each from an archive.
+//! What the commands write: most from an archive, back-casts from temperatures.
 
+pub mod backcast;
 pub mod journal;
 pub mod log;
 pub mod sheet;
