@@ -20,7 +20,7 @@ import tempfile
 HERE = os.path.dirname(os.path.abspath(__file__))
 ROOT = os.path.dirname(os.path.dirname(HERE))
 # Refusals that a command can meet; the others are named beside the table of words, efbs/src/words.rs.
-REACHED = [*range(2, 12), *range(21, 30)]
+REACHED = [*range(2, 12), *range(21, 30), 31, 32]
 
 
 def fill(folder, efbs):
