@@ -14,7 +14,10 @@ READERS = (
     ["report", "FILE", "2026"],
 )
 # These answer in their own way: the damage may have taken the account's enrolment, and a text is no archive.
-OTHERS = (["log", "FILE", "--account", "0", "--refused"], ["pack", "FILE", "-o", "-"])
+OTHERS = (
+    ["log", "FILE", "--account", "0", "--refused"], ["pack", "FILE", "-o", "-"],
+    ["backcast", "--base", "520", "--slope", "61.75", "--turning", "65", "31.7", "--temperatures", "FILE"],
+)
 COMMANDS = READERS + OTHERS
 PREFIXES, FLIPS, NOISES = 200, 150, 50
 
