@@ -1,4 +1,4 @@
-//! Archives of the bank recorder read, shown and converted. The proved library decides every figure.
+//! Archives of the bank recorder read, shown and converted, and back-casts for them. The proved library decides every figure.
 
 #![forbid(unsafe_code)]
 

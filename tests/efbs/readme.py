@@ -14,16 +14,19 @@ def main():
     made = read("tools/build").decode()
     for place in (BUILT, ARCHIVE):
         checks.that(place in made and place in readme, f"tools/build makes {place}, and README uses it")
-    shown = re.search(rf"(?m)^    \$ {BUILT} (.*)\n((?:    .*\n|\n)+)", readme)
-    words = [word.replace(ARCHIVE, sample) for word in shown[1].split()]
-    printed = iter(run(*words)[1].decode().split("\n"))
-    lines = [line[4:] for line in shown[2].split("\n") if line.strip(" .")]
-    for line in lines:
-        # Lines may be left out between those that are shown, but only these.
-        checks.that(line in printed, f"README shows {line!r}")
+    counts = {}
+    for shown in re.finditer(rf"(?m)^    \$ {BUILT} (.*)\n((?:    .*\n|\n)+)", readme):
+        words = [word.replace(ARCHIVE, sample) for word in shown[1].split()]
+        printed = iter(run(*words)[1].decode().split("\n"))
+        lines = [line[4:] for line in shown[2].split("\n") if line.strip(" .")]
+        for line in lines:
+            # Lines may be left out between those that are shown, but only these.
+            checks.that(line in printed, f"README shows {line!r}")
+        counts[words[0]] = len(lines)
     panel = re.search(r"`panel` \(the panel's line, here `(.*?)`", readme)
     checks.that(run("panel", sample)[1].decode() == f"{panel[1]}\n", f"README's line of the panel, {panel[1]}")
-    checks.that(len(lines) > 15, "README shows a statement")
+    checks.that(counts.get("statement", 0) > 15, "README shows a statement")
+    checks.that(counts.get("backcast", 0) > 4, "README shows back-casts")
     checks.that("removes `target/`" in readme, "README says what the gate leaves of the build")
     checks.end()
 
