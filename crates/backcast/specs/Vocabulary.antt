@@ -5,5 +5,6 @@ pub use lib.Ieee.{Float, nan, inf, fin, up, down}
 pub use Prim.Native.Nat.{_^_}
 -- IEEE 754's operations and comparison, of doubles (binary64): `sub`, `mul` and `add` round the exact result once, to the nearest double, of two
 -- equally near ones to that whose last digit is even, and too large ones to an infinity. `round binary64 s a b` is the double so nearest to a / b, or
--- to −a / b where s is true, and `ofInt binary64 z` the one nearest to the integer z.
+-- to −a / b where s is true, and `ofInt binary64 z` the one nearest to the integer z. `lt x y` is x < y of exact values, an infinity beyond all of
+-- them, and false where one of the two is nan.
 pub use lib.Ieee.{binary64, sub, mul, add, lt, round, ofInt}
