@@ -254,10 +254,10 @@ typedef struct {
 } nedrulov_back_cast_answer;
 
 /*
- * The greatest whole number of units not above the load: base + slope * (turning - temperature) below the turning
- * temperature, else base; the difference, the product and the sum are each rounded to double by themselves. Any four bit
- * patterns may be handed in. 31 if one is infinite or not a number; then 32 unless the load is a number from 0 to
- * 1,000,000,000, which an overflow on the way is not.
+ * The load, rounded down to whole units. Below the turning temperature it is base + slope * (turning - temperature),
+ * where difference, product and sum are each rounded to double by themselves; from it on it is base. Any four bit patterns
+ * may be handed in. 31 if one is infinite or not a number; then 32 if the load is below 0, above 1,000,000,000 or, by an
+ * overflow on the way, no number.
  * The processor must round to nearest and keep subnormal numbers, as every C program starts out; fesetround, or a program
  * linked with -ffast-math, changes that.
  */

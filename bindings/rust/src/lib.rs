@@ -291,8 +291,8 @@ pub fn band(month: u64, bcq: u64) -> Band {
     unsafe { ffi::nedrulov_band(month, bcq) }
 }
 
-/// The greatest whole number of units not above the load at a temperature, the load's difference, product and sum each
-/// rounded to double by itself; 31 if one of the four is infinite or not a number, 32 if the load is not from 0 to 10^9.
+/// The load at a temperature, rounded down to whole units; its difference, product and sum are each rounded to double by
+/// itself before. 31 if one of the four is infinite or not a number, 32 if the load is not from 0 to 10^9.
 pub fn back_cast(curve: LoadCurve, temperature: f64) -> BackCast {
     unsafe { ffi::nedrulov_back_cast(curve, temperature) }
 }

@@ -1,4 +1,4 @@
-// The day's back-cast from the actual temperature. It needs no ledger.
+// A day's back-cast, worked out from its temperature. It needs no ledger.
 mod answers;
 mod curves;
 mod doubles;
@@ -33,7 +33,7 @@ pub fn back_cast(curve: LoadCurve, f: f64) -> BackCast
     }
 }
 
-// What it answers is the greatest whole number of units not above the load.
+// Its answer is the load rounded down: the one n with n ≤ load < n + 1.
 pub fn greatest_whole()
     ensures every_answer { λ r. ⌜ EveryAnswer ⌝ }
     ensures only_one { λ r. ⌜ OnlyOne ⌝ }
