@@ -1,13 +1,13 @@
 -- The calendar, worked out instead of looked up: each formula is compared with the table of the months, month by month.
 use Prim.Native.Nat.{ℕ, zero, suc, _+_, _*_, _-_, _/_, _%_, _≤_}
 use mathlib.Core.Path.{_≡_, refl, sym, ap, _∙_}
-use mathlib.Core.Bool.{Bool, true, false, cond}
+use mathlib.Core.Bool.{Bool, true, false, cond, not}
 use mathlib.Core.List.{List, [], _∷_}
 use native.Mathlib.Omega.{arith}
 use lib.Dec.{eqb, ltb, leb}
 use lib.ListN.{getD, take}
 use borrow.Author.Tests.{eqb-true, ne-eqb, ltb-true}
-use Rattle.tariff.specs.Dates.{leap, lengths, monthLength, total}
+use Rattle.tariff.specs.Dates.{leap, divides, lengths, monthLength, total}
 use Rattle.tariff.specs.Structs.{Month}
 use Rattle.tariff.proofs.Tables.{allBelow, at-each, each, entry-le}
 use Rattle.tariff.proofs.Results.{choice-le}
@@ -19,6 +19,32 @@ months b = 31 ∷ cond b 29 28 ∷ 31 ∷ 30 ∷ 31 ∷ 30 ∷ 31 ∷ 31 ∷ 30 
 pub lengths-are : (year : ℕ) → lengths year ≡ months (leap year)
 unfolding lengths
 lengths-are year = refl
+
+-- ---- leap years of the century
+
+alike : Bool → Bool → Bool
+alike true b = b
+alike false b = not b
+
+alike-is : (a b : Bool) → alike a b ≡ true → a ≡ b
+unfolding alike
+alike-is true true h = refl
+alike-is true false h = sym h
+alike-is false true h = h
+alike-is false false h = refl
+
+fourth : ℕ → Bool
+fourth i = alike (leap (2000 + i)) (eqb ((2000 + i) % 4) 0)
+
+fourth-each : allBelow fourth 100 ≡ true
+unfolding fourth alike leap divides
+fourth-each = refl
+
+pub every-fourth : (y : ℕ) → 2000 ≤ y → y ≤ 2099 → leap y ≡ eqb (y % 4) 0
+unfolding fourth
+every-fourth y h l =
+    let back : 2000 + (y - 2000) ≡ y = omega arith in
+    rw back at (alike-is (leap (2000 + (y - 2000))) (eqb ((2000 + (y - 2000)) % 4) 0) (at-each fourth 100 fourth-each (y - 2000) (omega arith)))
 
 -- ---- a month's length: 31 and 30 by turns, anew from August
 

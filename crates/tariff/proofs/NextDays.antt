@@ -7,13 +7,13 @@ use lib.Dec.{eqb, leb}
 use lib.ListN.{getD, take}
 use borrow.Author.Tests.{eqb-true, eqb-false, eq-eqb, ne-eqb, le-leb, leb-true}
 use Rattle.tariff.specs.Months.{sameMonth, december}
-use Rattle.tariff.specs.Dates.{leap, divides, lengths, monthLength, real, isOn, lastOfMonth, lastDate, dayAfter, total, dayNumber, weekday}
+use Rattle.tariff.specs.Dates.{leap, lengths, monthLength, real, isOn, lastOfMonth, lastDate, dayAfter, total, dayNumber, weekday}
 use Rattle.tariff.specs.Calendar.{written, RightDays}
 use Rattle.tariff.specs.Structs.{Date, Month}
 use Rattle.tariff.proofs.Bools.{and-fails}
 use Rattle.tariff.proofs.Tables.{allBelow, at-each}
 use Rattle.tariff.proofs.Ranges.{date-bounds}
-use Rattle.tariff.proofs.Calendar.{months, lengths-are, month-length-le}
+use Rattle.tariff.proofs.Calendar.{months, lengths-are, every-fourth, month-length-le}
 
 abbrev date : ℕ → ℕ → ℕ → Date
 date y m k = record { year = y; month = record { 0 = m }; day = k }
@@ -60,31 +60,7 @@ same-length : (y z : ℕ) (m n : Month) → y ≡ z → m .0 ≡ n .0 → monthL
 unfolding monthLength
 same-length y z m n p q = rw (p, q)
 
--- ---- leap years of the century
-
-alike : Bool → Bool → Bool
-alike true b = b
-alike false b = not b
-
-alike-is : (a b : Bool) → alike a b ≡ true → a ≡ b
-unfolding alike
-alike-is true true h = refl
-alike-is true false h = sym h
-alike-is false true h = h
-alike-is false false h = refl
-
-fourth : ℕ → Bool
-fourth i = alike (leap (2000 + i)) (eqb (i % 4) 0)
-
-fourth-each : allBelow fourth 100 ≡ true
-unfolding fourth alike leap divides
-fourth-each = refl
-
-every-fourth : (y : ℕ) → 2000 ≤ y → y ≤ 2099 → leap y ≡ eqb ((y - 2000) % 4) 0
-unfolding fourth
-every-fourth y h l =
-    let back : 2000 + (y - 2000) ≡ y = omega arith in
-    ap leap (sym back) ∙ alike-is _ _ (at-each fourth 100 fourth-each (y - 2000) (omega arith))
+-- ---- a year more
 
 eleven-months : (b : Bool) → total (take 11 (months b)) ≡ cond b 335 334
 unfolding total
@@ -92,7 +68,9 @@ eleven-months true = refl
 eleven-months false = refl
 
 year-grows : (y : ℕ) → 2000 ≤ y → y ≤ 2099 → 365 * (y + 1 - 2000) + (y + 1 - 2000 + 3) / 4 ≡ 365 * (y - 2000) + (y - 2000 + 3) / 4 + total (take 11 (lengths y)) + 31
-year-grows y h l = rw (lengths-are y, eleven-months (leap y), every-fourth y h l) (go (eqb ((y - 2000) % 4) 0) refl)
+year-grows y h l =
+    let same : y % 4 ≡ (y - 2000) % 4 = omega arith in
+    rw (lengths-are y, eleven-months (leap y), every-fourth y h l, same) (go (eqb ((y - 2000) % 4) 0) refl)
   where
     go : (t : Bool) → eqb ((y - 2000) % 4) 0 ≡ t → 365 * (y + 1 - 2000) + (y + 1 - 2000 + 3) / 4 ≡ 365 * (y - 2000) + (y - 2000 + 3) / 4 + cond t 335 334 + 31
     go true e = omega (arith, eqb-true ((y - 2000) % 4) 0 e)

@@ -13,14 +13,17 @@ pub struct Date {
     pub day: u64,
 }
 
+// Every fourth year: of these hundred years, only 2000 is a full century, and it was a leap year.
 fn leap(year: u64) -> bool
+    requires { ⌜ (2000 ≤ year) × (year ≤ 2099) ⌝ }
     ensures { λ r. ⌜ r ≡ leap year ⌝ }
 {
-    (year % 4 == 0) & ((year % 100 != 0) | (year % 400 == 0))
+    year % 4 == 0
 }
 
 // Worked out and not looked up: after February the lengths go 31, 30 by turns, and begin anew in August.
 fn month_length(year: u64, month: Month) -> u64
+    requires { ⌜ (2000 ≤ year) × (year ≤ 2099) ⌝ }
     requires { ⌜ (1 ≤ month .0) × (month .0 ≤ 12) ⌝ }
     ensures { λ r. ⌜ r ≡ monthLength year month ⌝ }
 {
@@ -40,11 +43,12 @@ impl Date {
     {
         let month = self.month;
         let m = month.0;
-        if !((1 <= m) & (m <= 12)) {
+        let year = self.year;
+        if !(((1 <= m) & (m <= 12)) & ((2000 <= year) & (year <= 2099))) {
             return false;
         }
-        let last = month_length(self.year, month);
-        ((2000 <= self.year) & (self.year <= 2099)) & ((1 <= self.day) & (self.day <= last))
+        let last = month_length(year, month);
+        (1 <= self.day) & (self.day <= last)
     }
 
     pub fn same(self, other: Date) -> bool
