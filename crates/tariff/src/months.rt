@@ -1,21 +1,29 @@
 // A month, of which the rider's percentages are asked. Tables run from April to March, as the gas year does.
 ghost use mathlib.Core.Path.{_≡_};
 ghost use Prim.Native.Nat.{_<_, _≤_};
+ghost use lib.ListN.{getD};
 ghost use Rattle.tariff.specs.Months.{sameMonth, gasMonth, winter, minimum, maximum, mmbq, withdrawalMaximum, withdrawalMinimum};
 
 // By its number in the calendar year. Other numbers than 1 to 12 are no date's month.
 #[repr(C)]
 pub struct Month(pub u64);
 
-const MINIMUM: [u64; 12] = [0, 0, 14, 34, 54, 75, 88, 95, 78, 59, 36, 18];
+// Percentages are bytes, as the compiler writes a table out wherever it is used.
+const MINIMUM: [u8; 12] = [0, 0, 14, 34, 54, 75, 88, 95, 78, 59, 36, 18];
 
-const MAXIMUM: [u64; 12] = [25, 60, 60, 60, 85, 85, 98, 98, 98, 98, 65, 45];
+const MAXIMUM: [u8; 12] = [25, 60, 60, 60, 85, 85, 98, 98, 98, 98, 65, 45];
 
-const MMBQ: [u64; 12] = [15, 20, 20, 20, 20, 13, 7, 5, 10, 10, 10, 10];
+const MMBQ: [u8; 12] = [15, 20, 20, 20, 20, 13, 7, 5, 10, 10, 10, 10];
 
-const WITHDRAWAL_MAXIMUM: [u64; 12] = [0, 0, 0, 0, 0, 0, 0, 40, 40, 40, 30, 20];
+const WITHDRAWAL_MAXIMUM: [u8; 12] = [0, 0, 0, 0, 0, 0, 0, 40, 40, 40, 30, 20];
 
-const WITHDRAWAL_MINIMUM: [u64; 12] = [0, 0, 0, 0, 0, 0, 0, 0, 0, 0, 10, 10];
+const WITHDRAWAL_MINIMUM: [u8; 12] = [0, 0, 0, 0, 0, 0, 0, 0, 0, 0, 10, 10];
+
+fn wide(percent: u8) -> u64
+    ensures { λ r. ⌜ r ≡ percent ⌝ }
+{
+    percent as u64
+}
 
 impl Month {
     pub const JANUARY: Month = Month(1);
@@ -47,6 +55,14 @@ impl Month {
         ((self.0 % 12 + 8) % 12) as usize
     }
 
+    // This month's entry in a table of the gas year.
+    fn entry(self, table: [u8; 12]) -> u64
+        ensures { λ r. ⌜ r ≡ getD table (gasMonth self) 0 ⌝ }
+    {
+        let at = self.gas_month();
+        wide(table[at])
+    }
+
     // November to March.
     pub fn winter(self) -> bool
         ensures { λ r. ⌜ r ≡ winter self ⌝ }
@@ -59,8 +75,7 @@ impl Month {
         ensures { λ r. ⌜ r ≡ minimum self ⌝ }
         ensures bounded { λ r. ⌜ r ≤ 102 ⌝ }
     {
-        let at = self.gas_month();
-        MINIMUM[at]
+        self.entry(MINIMUM)
     }
 
     // The largest bank, in percent of the BCQ.
@@ -68,8 +83,7 @@ impl Month {
         ensures { λ r. ⌜ r ≡ maximum self ⌝ }
         ensures bounded { λ r. ⌜ r ≤ 102 ⌝ }
     {
-        let at = self.gas_month();
-        MAXIMUM[at]
+        self.entry(MAXIMUM)
     }
 
     // The most that a month may add to a bank, in percent of the BCQ.
@@ -77,8 +91,7 @@ impl Month {
         ensures { λ r. ⌜ r ≡ mmbq self ⌝ }
         ensures bounded { λ r. ⌜ r ≤ 102 ⌝ }
     {
-        let at = self.gas_month();
-        MMBQ[at]
+        self.entry(MMBQ)
     }
 
     // The most that a month may take from a bank, November to March.
@@ -86,8 +99,7 @@ impl Month {
         ensures { λ r. ⌜ r ≡ withdrawalMaximum self ⌝ }
         ensures bounded { λ r. ⌜ r ≤ 102 ⌝ }
     {
-        let at = self.gas_month();
-        WITHDRAWAL_MAXIMUM[at]
+        self.entry(WITHDRAWAL_MAXIMUM)
     }
 
     // The least that February and March must take from a bank.
@@ -95,7 +107,6 @@ impl Month {
         ensures { λ r. ⌜ r ≡ withdrawalMinimum self ⌝ }
         ensures bounded { λ r. ⌜ r ≤ 102 ⌝ }
     {
-        let at = self.gas_month();
-        WITHDRAWAL_MINIMUM[at]
+        self.entry(WITHDRAWAL_MINIMUM)
     }
 }

@@ -9,7 +9,7 @@ use Rattle.tariff.proofs.months.Month.maximum.Tie as tie
 
 returns : tie.Need-returns
 unfolding maximum
-returns c = let at : tie.After-gas-month = search in and-bound (λ share. share ≤ 102) (rw (at .gas-month .ensures .0)) (search maximum-le)
+returns c = and-bound (λ share. share ≤ 102) (c .entry .ensures) (search maximum-le)
 
 pub maximum-spec : {M : Type 1} → statement M
-maximum-spec = tie.close (tie.spec (search needs) (search needs) (search needs) returns)
+maximum-spec = tie.close (tie.spec (search needs) returns)

@@ -9,7 +9,7 @@ use Rattle.tariff.proofs.months.Month.minimum.Tie as tie
 
 returns : tie.Need-returns
 unfolding minimum
-returns c = let at : tie.After-gas-month = search in and-bound (λ share. share ≤ 102) (rw (at .gas-month .ensures .0)) (search minimum-le)
+returns c = and-bound (λ share. share ≤ 102) (c .entry .ensures) (search minimum-le)
 
 pub minimum-spec : {M : Type 1} → statement M
-minimum-spec = tie.close (tie.spec (search needs) (search needs) (search needs) returns)
+minimum-spec = tie.close (tie.spec (search needs) returns)

@@ -9,7 +9,7 @@ use Rattle.tariff.proofs.months.Month.mmbq.Tie as tie
 
 returns : tie.Need-returns
 unfolding mmbq
-returns c = let at : tie.After-gas-month = search in and-bound (λ share. share ≤ 102) (rw (at .gas-month .ensures .0)) (search mmbq-le)
+returns c = and-bound (λ share. share ≤ 102) (c .entry .ensures) (search mmbq-le)
 
 pub mmbq-spec : {M : Type 1} → statement M
-mmbq-spec = tie.close (tie.spec (search needs) (search needs) (search needs) returns)
+mmbq-spec = tie.close (tie.spec (search needs) returns)

@@ -9,7 +9,7 @@ use Rattle.tariff.proofs.months.Month.withdrawal_maximum.Tie as tie
 
 returns : tie.Need-returns
 unfolding withdrawalMaximum
-returns c = let at : tie.After-gas-month = search in and-bound (λ share. share ≤ 102) (rw (at .gas-month .ensures .0)) (search withdrawal-maximum-le)
+returns c = and-bound (λ share. share ≤ 102) (c .entry .ensures) (search withdrawal-maximum-le)
 
 pub withdrawal-maximum-spec : {M : Type 1} → statement M
-withdrawal-maximum-spec = tie.close (tie.spec (search needs) (search needs) (search needs) returns)
+withdrawal-maximum-spec = tie.close (tie.spec (search needs) returns)

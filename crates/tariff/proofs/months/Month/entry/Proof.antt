@@ -1,0 +1,11 @@
+-- A month enters a table of twelve at its place in the gas year.
+use borrow.Author.Needs.{needs}
+use Rattle.tariff.proofs.months.Month.entry.Statement.{statement}
+use Rattle.tariff.proofs.months.Month.entry.Tie as tie
+
+pub entry-spec : {M : Type 1} → statement M
+entry-spec =
+    tie.close
+    (tie.spec
+    (search needs) (search needs) (search needs)
+    (λ c. let at : tie.After-gas-month = search in rw (c .wide .ensures, at .gas-month .ensures .0)))
