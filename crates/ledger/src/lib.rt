@@ -49,6 +49,7 @@ use crate::postings::change;
 use crate::postings::post_several;
 use crate::ranges::account_in_range;
 use crate::ranges::in_range;
+use crate::state::in_one_piece;
 use crate::state::nobody;
 use tariff::amounts::Dth;
 use tariff::amounts::Units;
@@ -60,7 +61,7 @@ use tariff::terms::Terms;
 pub fn fresh(is_new: bool) -> Ledger
     ensures { λ r. ⌜ r ≡ fresh «is_new» ⌝ }
 {
-    let nobody = nobody();
+    let nobody = in_one_piece(nobody(), is_new);
     let accounts = [nobody; 16];
     let date = Date {
         year: 0,

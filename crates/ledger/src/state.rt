@@ -129,6 +129,16 @@ pub fn nobody() -> Account
     }
 }
 
+// The account as it is, read at a place that only a run can tell. So the compiler copies it whole; one that it sees through it
+// takes apart, and with it every ledger that is made of it (docs/DECISIONS.md, 127).
+pub fn in_one_piece(a: Account, which: bool) -> Account
+    ensures { λ r. ⌜ r ≡ a ⌝ }
+{
+    let both = [a; 2];
+    let i = which as usize;
+    both[i]
+}
+
 // With an account anew, after something was accepted.
 pub fn with_account(l: Ledger, i: usize, a: Account) -> Ledger
     requires { ⌜ i < 16 ⌝ }

@@ -6,4 +6,4 @@ use Rattle.ledger.proofs.fresh.Tie as tie
 
 pub fresh-spec : {M : Type 1} → statement M
 unfolding fresh
-fresh-spec = tie.close (tie.spec (λ c κs. search needs) (λ c. rw (c .nobody .ensures)))
+fresh-spec = tie.close (tie.spec (λ c κs. search needs) (λ c κs. search needs) (λ c. rw (c .in-one-piece .ensures, (let at : tie.After-nobody = search in at .nobody .ensures))))
