@@ -21,20 +21,16 @@ fn leap(year: u64) -> bool
     year % 4 == 0
 }
 
-// Worked out and not looked up: after February the lengths go 31, 30 by turns, and begin anew in August.
+// Worked out and not looked up: 31 and 30 days by turns, anew from August on, and February by itself. No test of months in branches: the
+// compiler would repeat them for each caller, and from some it makes the table that is not to be kept (docs/DECISIONS.md, 124).
 fn month_length(year: u64, month: Month) -> u64
     requires { ⌜ (2000 ≤ year) × (year ≤ 2099) ⌝ }
     requires { ⌜ (1 ≤ month .0) × (month .0 ≤ 12) ⌝ }
     ensures { λ r. ⌜ r ≡ monthLength year month ⌝ }
 {
     let m = month.0;
-    if m == 2 {
-        if leap(year) {
-            return 29;
-        }
-        return 28;
-    }
-    30 + (m + m / 8) % 2
+    let february = choose(leap(year), 29, 28);
+    choose(m == 2, february, 30 + (m + m / 8) % 2)
 }
 
 impl Date {

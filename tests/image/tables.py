@@ -1,0 +1,209 @@
+#!/usr/bin/env python3
+"""No table of month lengths in an image: document 02, (iii), and docs/DECISIONS.md, 123.
+
+Looks for the twelve lengths in the loaded data, the code's bytes, its immediate operands and the memory that these are stored to: in 8, 16,
+32 and 64 bits, alone or as a member of records of up to 16 bytes, from any month on, in either order, less any number that is the same
+for all, and as days of the year that add up; and packed into one word. `tables.py FILE ...` takes linked files; `--source FOLDER` looks
+through the numbers in Rattle files, words of bits that mark the long months included."""
+
+import os
+import re
+import sys
+
+import elf
+import operands
+
+LENGTHS = (31, 28, 31, 30, 31, 30, 31, 31, 30, 31, 30, 31)
+MARCH, APRIL = 2, 3
+WIDTHS = (1, 2, 4, 8)
+MOST_STRIDE = 16
+
+
+def orders():
+    """The lengths from each month on, with both Februaries, forward and backward."""
+    for february in (28, 29):
+        year = [february if n == 28 else n for n in LENGTHS]
+        for first in range(12):
+            turned = year[first:] + year[:first]
+            yield turned
+            yield turned[::-1]
+
+
+def steps(values):
+    return tuple(b - a for a, b in zip(values, values[1:]))
+
+
+def shapes():
+    """How each entry of a table differs from the one before it: lengths, less any number, and days that add up."""
+    found = set()
+    for turned in orders():
+        found |= {steps(turned), tuple(turned[:11]), tuple(-n for n in turned[:11])}
+    # A year whose February is told elsewhere: the days up to the months from March or April on.
+    for first in (MARCH, APRIL):
+        nine = tuple((LENGTHS * 2)[first:first + 9])
+        found |= {nine, nine[::-1], tuple(-n for n in nine), tuple(-n for n in nine[::-1])}
+    return found
+
+
+# April to November, as they are: what is left of a table where February is told elsewhere and a compiler leaves out the 31s at both ends.
+# It reads the same backward.
+CORE = LENGTHS[APRIL:APRIL + 8]
+SHAPES = shapes()
+
+
+class Pattern:
+    """The shapes in numbers of one width, which wrap, by their first two steps, so that most places are passed over at once."""
+
+    def __init__(self, width):
+        self.modulus = 1 << 8 * width
+        self.by_start = {}
+        for shape in SHAPES:
+            wrapped = tuple(step % self.modulus for step in shape)
+            self.by_start.setdefault(wrapped[:2], set()).add(wrapped)
+
+    def at(self, values, start, stride):
+        """Whether the numbers from `start` on, every `stride`th, begin with a table."""
+        if start + 2 * stride >= len(values):
+            return False
+        first, second, third = values[start], values[start + stride], values[start + 2 * stride]
+        candidates = self.by_start.get(((second - first) % self.modulus, (third - second) % self.modulus), ())
+        for shape in candidates:
+            window = values[start:start + stride * len(shape) + 1:stride]
+            if len(window) == len(shape) + 1 and tuple(step % self.modulus for step in steps(window)) == shape:
+                return True
+        return tuple(values[start:start + 8 * stride:stride]) == CORE
+
+
+PATTERNS = {width: Pattern(width) for width in WIDTHS}
+
+
+def in_values(values, width=8, most_stride=3):
+    """The first place of a table in a list of numbers, or None."""
+    pattern = PATTERNS[width]
+    for start in range(len(values)):
+        for stride in range(1, most_stride + 1):
+            if pattern.at(values, start, stride):
+                return start
+    return None
+
+
+def in_bytes(data):
+    """The first place of a table in bytes, or None."""
+    for width in WIDTHS:
+        for offset in range(min(width, len(data))):
+            count = (len(data) - offset) // width
+            values = [int.from_bytes(data[offset + i * width:offset + (i + 1) * width], "little") for i in range(count)]
+            found = in_values(values, width, MOST_STRIDE // width)
+            if found is not None:
+                return offset + found * width
+    return None
+
+
+def packed(entries, bits):
+    return sum(entry % (1 << bits) << bits * place for place, entry in enumerate(entries))
+
+
+def packed_words():
+    """The lengths in one word of 64 bits: two to five bits each, as they are or less 28."""
+    found = set()
+    for february in (28, 29):
+        year = [february if n == 28 else n for n in LENGTHS]
+        for first in (0, MARCH, APRIL):
+            turned = year[first:] + year[:first]
+            for order in (turned, turned[::-1]):
+                for bits in (2, 3, 4, 5):
+                    found |= {packed(order, bits), packed([n - 28 for n in order], bits)}
+    return found
+
+
+def bit_words():
+    """Words whose bits mark the months of 31 days, or the others: a table too, where a hand wrote it."""
+    found = set()
+    for first in (0, MARCH, APRIL):
+        turned = (LENGTHS * 2)[first:first + 12]
+        for order in (turned, turned[::-1]):
+            found |= {packed([n == 31 for n in order], 1), packed([n < 31 for n in order], 1), packed([n == 30 for n in order], 1)}
+    return found
+
+
+PACKED = packed_words()
+BITS = bit_words()
+
+
+def is_packed(word, words):
+    """Whether a word holds one of these, as it is or moved up by a place or two, as where months are counted from 1."""
+    word %= 1 << 64
+    return any(word >> moved in words and word % (1 << moved) == 0 for moved in (0, 1, 2, 3, 4, 5, 6, 8, 10))
+
+
+def every_place(data):
+    """Every place of a table in bytes."""
+    moved = 0
+    found = in_bytes(data)
+    while found is not None:
+        yield moved + found
+        moved += found + 1
+        found = in_bytes(data[moved:])
+
+
+def owner(address, image, seen):
+    """What an address belongs to: the function or table that is named there, or else the function that refers to it or to the nearest place below."""
+    named = image.name_at(address)
+    near = [(at, function.name) for function in seen for at in function.refers if at <= address]
+    return named or (f"what {max(near)[1]} refers to" if near else f"address {address:#x}")
+
+
+def faults_of(path):
+    """Every function and table of a linked file in which month lengths stand, in words, and what was looked through."""
+    [image] = elf.images(path)
+    seen = operands.functions(path, image)
+    faults = []
+    for section in image.loaded_data() + image.code():
+        for place in every_place(section.data):
+            fault = f"{section.name}, {owner(section.address + place, image, seen)}"
+            if fault not in faults:
+                faults.append(fault)
+    for function in seen:
+        if any(in_values(function.values[kind]) is not None for kind in operands.LISTS):
+            faults.append(f"immediate operands of {function.name}")
+        if any(in_bytes(block) is not None for block in function.blocks):
+            faults.append(f"constants that {function.name} stores")
+        if any(is_packed(word, PACKED) for word in function.words):
+            faults.append(f"a word in {function.name}")
+    data = sum(len(s.data) for s in image.loaded_data())
+    return faults, f"{len(seen)} functions, {sum(len(f.words) for f in seen)} immediate operands, {data} bytes of data"
+
+
+def source_faults(folder):
+    """Every Rattle file below a folder whose numbers hold a table."""
+    faults, count = [], 0
+    for place, _, files in os.walk(folder):
+        for name in sorted(files):
+            if not name.endswith(".rt"):
+                continue
+            count += 1
+            path = os.path.join(place, name)
+            with open(path, encoding="utf-8") as file:
+                code = re.sub(r"//[^\n]*", "", file.read())
+            numbers = [int(n.replace("_", ""), 0) for n in re.findall(r"\b(?:0x[0-9a-fA-F_]+|0b[01_]+|0|[1-9][0-9_]*)\b", code)]
+            if in_values(numbers) is not None or any(is_packed(n, PACKED | BITS) for n in numbers):
+                faults.append(path)
+    return faults, f"{count} Rattle files"
+
+
+def main(words):
+    looks = [("source", word) for word in words[1:]] if words[:1] == ["--source"] else [("image", word) for word in words]
+    if not looks:
+        sys.exit("tables: no file named")
+    failed = False
+    for kind, path in looks:
+        faults, seen = source_faults(path) if kind == "source" else faults_of(path)
+        for fault in faults:
+            print(f"tables: {os.path.basename(path)}: month lengths in {fault}")
+        print(f"tables: {os.path.basename(path)}: {seen}, {len(faults) or 'no'} table{'s' if len(faults) != 1 else ''} of month lengths")
+        failed = failed or bool(faults)
+    return 1 if failed else 0
+
+
+if __name__ == "__main__":
+    sys.exit(main(sys.argv[1:]))
