@@ -11,6 +11,8 @@ INSTRUCTION = re.compile(r"^\s*([0-9a-f]+):\s+([a-z][a-z0-9]*)\s*([^#]*)(?:#\s*(
 MEMORY = re.compile(r"^(-?0x[0-9a-f]+)?\((%\w+)?(,%\w+,\d)?\)$")
 PARTS = {"al": "rax", "bl": "rbx", "cl": "rcx", "dl": "rdx", "sil": "rsi", "dil": "rdi", "bpl": "rbp"}
 SUFFIXES = {"b": 1, "w": 2, "l": 4, "q": 8}
+# Moves that carry only the low bytes of a vector register.
+OF_A_VECTOR = {"movq": 8, "movd": 4, "movlps": 8}
 
 
 def register(name):
@@ -78,13 +80,12 @@ class Function:
 
     def content(self, operation, source, target, address):
         """The bytes that a move carries, where they are known."""
+        if source.startswith("%"):
+            name, size = register(source)
+            return self.known[name][:OF_A_VECTOR.get(operation, size)] if name in self.known else None
         size = register(target)[1] if target.startswith("%") else SUFFIXES.get(operation[-1], 8)
         if source.startswith("$"):
             return (int(source[1:], 16) % (1 << 8 * size)).to_bytes(size, "little")
-        if source.startswith("%"):
-            name, own = register(source)
-            content = self.known.get(name)
-            return content and content[:own if not operation.endswith(("movq", "movd")) else SUFFIXES[operation[-1]]]
         return self.image.bytes_at(address, size) if address else None
 
     def set(self, name, content):

@@ -22,10 +22,11 @@ def limit_of(name):
     sys.exit(f"sizes: limits.txt has no limit for {name}")
 
 
-def removed_sections(path):
-    """Names of sections, from the linker's own messages."""
+def removed_sections(path, library):
+    """Names of the library's sections that the linker removed, from its own messages."""
+    of_library = rf"removing unused section '([^']+)' in file '[^']*{re.escape(os.path.basename(library))}\("
     with open(path, encoding="utf-8") as file:
-        return set(re.findall(r"removing unused section '([^']+)'", file.read()))
+        return set(re.findall(of_library, file.read()))
 
 
 def parts(image, removed):
@@ -42,7 +43,7 @@ def parts(image, removed):
 
 def main(words):
     name, path = words[:2]
-    removed = removed_sections(words[3]) if words[2:3] == ["--but"] else set()
+    removed = removed_sections(words[3], path) if words[2:3] == ["--but"] else set()
     if words[2:] and not removed:
         sys.exit(f"sizes: {name}: the linker removed nothing")
     total = 0
