@@ -55,8 +55,8 @@ impl Month {
         ((self.0 % 12 + 8) % 12) as usize
     }
 
-    // This month's entry in a table of the gas year.
-    fn entry(self, table: [u8; 12]) -> u64
+    // What a table of the gas year has for this month.
+    fn percent_in(self, table: [u8; 12]) -> u64
         ensures { λ r. ⌜ r ≡ getD table (gasMonth self) 0 ⌝ }
     {
         let at = self.gas_month();
@@ -75,7 +75,7 @@ impl Month {
         ensures { λ r. ⌜ r ≡ minimum self ⌝ }
         ensures bounded { λ r. ⌜ r ≤ 102 ⌝ }
     {
-        self.entry(MINIMUM)
+        self.percent_in(MINIMUM)
     }
 
     // The largest bank, in percent of the BCQ.
@@ -83,7 +83,7 @@ impl Month {
         ensures { λ r. ⌜ r ≡ maximum self ⌝ }
         ensures bounded { λ r. ⌜ r ≤ 102 ⌝ }
     {
-        self.entry(MAXIMUM)
+        self.percent_in(MAXIMUM)
     }
 
     // The most that a month may add to a bank, in percent of the BCQ.
@@ -91,7 +91,7 @@ impl Month {
         ensures { λ r. ⌜ r ≡ mmbq self ⌝ }
         ensures bounded { λ r. ⌜ r ≤ 102 ⌝ }
     {
-        self.entry(MMBQ)
+        self.percent_in(MMBQ)
     }
 
     // The most that a month may take from a bank, November to March.
@@ -99,7 +99,7 @@ impl Month {
         ensures { λ r. ⌜ r ≡ withdrawalMaximum self ⌝ }
         ensures bounded { λ r. ⌜ r ≤ 102 ⌝ }
     {
-        self.entry(WITHDRAWAL_MAXIMUM)
+        self.percent_in(WITHDRAWAL_MAXIMUM)
     }
 
     // The least that February and March must take from a bank.
@@ -107,6 +107,6 @@ impl Month {
         ensures { λ r. ⌜ r ≡ withdrawalMinimum self ⌝ }
         ensures bounded { λ r. ⌜ r ≤ 102 ⌝ }
     {
-        self.entry(WITHDRAWAL_MINIMUM)
+        self.percent_in(WITHDRAWAL_MINIMUM)
     }
 }
