@@ -1,6 +1,6 @@
 #!/usr/bin/env python3
-"""The search for tables finds the tables that are put in: each form of the month lengths, compiled by gcc and by Rattle's own compiler,
-must be reported under its own name, and lengths that are worked out must not. Needs gcc and rt."""
+"""The search for tables finds the tables that are put in: each form of the month lengths, compiled by gcc and by Rattle's own compiler and
+linked by itself, must be reported, and lengths that are worked out must not. Needs gcc and rt."""
 
 import os
 import subprocess
@@ -33,11 +33,26 @@ FORMS = {
     "days_before_leap": added_up(LEAP, 0),
     "days_to_end": added_up(YEAR, 31),
     "from_april_added": added_up(YEAR[3:] + YEAR[:3], 0),
+    "in_hours": [24 * n for n in YEAR],
+    "long": [int(n == 31) for n in YEAR],
+    "weekdays": [n % 7 for n in added_up(YEAR, 0)],
 }
 C_TYPES = {8: "unsigned char", 16: "unsigned short", 32: "unsigned int", 64: "unsigned long"}
 RATTLE_TYPES = {8: "u8", 16: "u16", 32: "u32", 64: "u64"}
-WORKED_OUT = "unsigned long worked_out(unsigned long m) { return m == 2 ? 28 : 30 + (m + m / 8) % 2; }\n"
-PACKED = "unsigned long packed_word(unsigned m) { return 28 + (0xeefbb3ul >> 2 * m) % 4; }\n"
+LEVELS = ("-O2", "-Os")
+
+# The compiler makes tables of the first three too: it leaves out the entries at both ends that are alike, or July and August.
+RATTLE_TESTS = {
+    "by_ifs": "    if m == 2 {\n        return 28;\n    }\n    if (m == 4) | (m == 6) | (m == 9) | (m == 11) {\n        return 30;\n    }\n    31\n",
+    "past_28_by_ifs": "    if m == 2 {\n        return 0;\n    }\n    if (m == 4) | (m == 6) | (m == 9) | (m == 11) {\n        return 2;\n    }\n    3\n",
+    "by_groups": "    match m {\n        1 | 3 | 5 | 7 | 8 | 10 | 12 => 31,\n        4 | 6 | 9 | 11 => 30,\n        2 => 28,\n        _ => 0,\n    }\n",
+    "lengths_by_match": "    match m {\n" + "".join(f"        {m} => {n},\n" for m, n in enumerate(YEAR, 1)) + "        _ => 0,\n    }\n",
+    "days_by_match": "    match m {\n" + "".join(f"        {m} => {n},\n" for m, n in enumerate(added_up(YEAR, 0), 1)) + "        _ => 0,\n    }\n",
+}
+WORKED_OUT = {
+    "C": "unsigned long worked_out(unsigned long m) { return m == 2 ? 28 : 30 + (m + m / 8) % 2; }\n",
+    "Rattle": "    let n = m % 13;\n    30 + (n + n / 8) % 2\n",
+}
 
 
 def forms():
@@ -47,102 +62,93 @@ def forms():
                 yield f"{name}_{bits}", bits, entries
 
 
-def c_source():
+def c_sources():
     """Each form as a table at rest, and as one that a function writes out when it is called."""
-    text = "typedef struct { unsigned char first, length; unsigned short name; } month;\n" + WORKED_OUT + PACKED
     for name, bits, entries in forms():
-        listed = ", ".join(map(str, entries))
-        text += f"const {C_TYPES[bits]} at_rest_{name}[12] = {{{listed}}};\n"
-        text += f"unsigned long at_rest_{name}_of(unsigned m) {{ return at_rest_{name}[m]; }}\n"
-        text += f"unsigned long written_{name}(unsigned m) {{ volatile {C_TYPES[bits]} t[12] = {{{listed}}}; return t[m]; }}\n"
+        listed = f"{C_TYPES[bits]} t[12] = {{{', '.join(map(str, entries))}}};"
+        yield f"at rest, {name}", f"static const {listed}\nunsigned long of(unsigned m) {{ return t[m]; }}\n"
+        yield f"written out, {name}", f"unsigned long of(unsigned m) {{ volatile {listed} return t[m]; }}\n"
     records = ", ".join(f"{{{7 * i % 11}, {n}, {40 + i * i}}}" for i, n in enumerate(YEAR))
-    return text + f"const month records[12] = {{{records}}};\nunsigned long record(unsigned m) {{ return records[m].length; }}\n"
+    month = "static const struct { unsigned char first, length; unsigned short name; } t[12]"
+    yield "records", f"{month} = {{{records}}};\nunsigned long of(unsigned m) {{ return t[m].length; }}\n"
+    yield "one word", "unsigned long of(unsigned m) { return 28 + (0xeefbb3ul >> 2 * m) % 4; }\n"
 
 
-def expected_in_c():
-    names = {f"{way}_{name}" for name, _, _ in forms() for way in ("at_rest", "written")}
-    return names | {"records", "packed_word"}
-
-
-# The compiler makes tables of these too, and keeps of the first two what is not the same as at the ends.
-BY_TESTS = """
-#[no_mangle]
-pub extern "C" fn by_ifs(m: u64) -> u64 {
-    if m == 2 {
-        return 28;
-    }
-    if (m == 4) | (m == 6) | (m == 9) | (m == 11) {
-        return 30;
-    }
-    31
-}
-"""
-
-
-def by_match(name, entries):
-    arms = "".join(f"        {m} => {n},\n" for m, n in enumerate(entries, 1))
-    return f'#[no_mangle]\npub extern "C" fn {name}(m: u64) -> u64 {{\n    match m {{\n{arms}        _ => 0,\n    }}\n}}\n'
+def rattle_function(name, argument, kind, body):
+    return f'#[no_mangle]\npub extern "C" fn {name}(m: {argument}) -> {kind} {{\n{body}}}\n'
 
 
 def rattle_source():
-    text = BY_TESTS + by_match("lengths_by_match", YEAR) + by_match("days_by_match", FORMS["days_before"])
+    text = rattle_function("worked_out", "u64", "u64", WORKED_OUT["Rattle"])
+    for name, body in RATTLE_TESTS.items():
+        text += rattle_function(name, "u64", "u64", body)
     for name, bits, entries in forms():
-        kind = RATTLE_TYPES[bits]
-        text += f"const {name.upper()}: [{kind}; 12] = [{', '.join(map(str, entries))}];\n"
-        text += f'#[no_mangle]\npub extern "C" fn {name}(m: usize) -> {kind} {{\n    if m < 12 {{\n        return {name.upper()}[m];\n    }}\n    0\n}}\n'
+        kind, table = RATTLE_TYPES[bits], name.upper()
+        text += f"const {table}: [{kind}; 12] = [{', '.join(map(str, entries))}];\n"
+        text += rattle_function(name, "usize", kind, f"    if m < 12 {{\n        return {table}[m];\n    }}\n    0\n")
     return text
-
-
-def missed(faults, expected):
-    """The names under which no fault was reported."""
-    words = {word for fault in faults for word in fault.replace(",", " ").split()}
-    return sorted(expected - words)
 
 
 def run(*words, **how):
     return subprocess.run(words, check=True, capture_output=True, text=True, **how)
 
 
+def write(path, text):
+    with open(path, "w", encoding="utf-8") as file:
+        file.write(text)
+
+
+def compiled_c(work, level, text):
+    source, program = os.path.join(work, "form.c"), os.path.join(work, "form")
+    write(source, text)
+    run("gcc", level, "-shared", "-nostdlib", "-fPIC", "-o", program, source)
+    return program
+
+
 def try_c(work, level):
-    source, program = os.path.join(work, "forms.c"), os.path.join(work, "forms")
-    with open(source, "w", encoding="utf-8") as file:
-        file.write(c_source())
-    run("gcc", level, "-shared", "-fPIC", "-o", program, source)
-    return report(f"gcc {level}", tables.faults_of(program)[0], expected_in_c())
+    missed = [name for name, text in c_sources() if not tables.faults_of(compiled_c(work, level, text))[0]]
+    alarms = tables.faults_of(compiled_c(work, level, WORKED_OUT["C"]))[0]
+    return report(f"gcc {level}", len(list(c_sources())), missed, alarms)
+
+
+def linked_alone(work, name):
+    """One function of the library, with what it refers to and nothing else."""
+    program = os.path.join(work, "alone")
+    library = os.path.join(work, "target", "staticlib", "libforms.a")
+    run("gcc", "-nostdlib", "-static", f"-Wl,-e,{name}", f"-Wl,-u,{name}", "-Wl,--gc-sections", library, "-o", program)
+    return program
 
 
 def try_rattle(work):
     crate = os.path.join(work, "crates", "forms", "src")
     os.makedirs(crate)
-    for path, text in ((os.path.join(work, "crates.txt"), "forms:\n"), (os.path.join(crate, "lib.rt"), rattle_source())):
-        with open(path, "w", encoding="utf-8") as file:
-            file.write(text)
+    write(os.path.join(work, "crates.txt"), "forms:\n")
+    write(os.path.join(crate, "lib.rt"), rattle_source())
     run("rt", "staticlib", "forms", cwd=work)
-    program = os.path.join(work, "linked")
-    link(os.path.join(work, "target", "staticlib", "libforms.a"), program)
-    expected = {name for name, _, _ in forms()} | {"by_ifs", "lengths_by_match", "days_by_match"}
-    return report("Rattle", tables.faults_of(program)[0], expected)
+    names = [name for name, _, _ in forms()]
+    missed = [name for name in names if not in_code(tables.faults_of(linked_alone(work, name))[0])]
+    missed += [name for name in RATTLE_TESTS if not tables.faults_of(linked_alone(work, name))[0]]
+    return report("Rattle", len(names) + len(RATTLE_TESTS), missed, tables.faults_of(linked_alone(work, "worked_out"))[0])
 
 
-def link(library, program):
-    """A static library, whole, as a linked file."""
-    run("gcc", "-nostartfiles", "-Wl,-e,0", "-Wl,--whole-archive", library, "-Wl,--no-whole-archive", "-o", program)
+def in_code(faults):
+    """Those in code. The compiler writes a table out there, from operands and from constants of 16 bytes that all functions share: what is
+    found among these constants may belong to another form."""
+    return [fault for fault in faults if not fault.startswith(".rodata")]
 
 
-def report(what, faults, expected):
-    absent = missed(faults, expected)
-    wrong = [fault for fault in faults if "worked_out" in fault]
-    for name in absent:
-        print(f"self-test: {what}: {name} was not found")
-    for fault in wrong:
-        print(f"self-test: {what}: {fault} is no table")
-    print(f"self-test: {what}: {len(expected) - len(absent)} of {len(expected)} tables found")
-    return not absent and not wrong
+def report(what, count, missed, alarms):
+    for name in missed:
+        print(f"self-test: {what}: not found: {name}")
+    for alarm in alarms:
+        print(f"self-test: {what}: worked out, and yet reported: {alarm}")
+    print(f"self-test: {what}: {count - len(missed)} of {count} tables found")
+    return not missed and not alarms
 
 
 def main():
     with tempfile.TemporaryDirectory() as work:
-        done = [try_c(work, level) for level in ("-O0", "-O2", "-Os")] + [try_rattle(work)]
+        done = [try_c(work, level) for level in LEVELS] + [try_rattle(work)]
     return 0 if all(done) else 1
 
 

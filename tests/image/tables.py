@@ -1,10 +1,11 @@
 #!/usr/bin/env python3
-"""No table of month lengths in an image: document 02, (iii), and docs/DECISIONS.md, 123.
+"""No table of month lengths in an image: document 02, (iii), and docs/DECISIONS.md, 128.
 
 Looks for the twelve lengths in the loaded data, the code's bytes, its immediate operands and the memory that these are stored to: in 8, 16,
 32 and 64 bits, alone or as a member of records of up to 16 bytes, from any month on, in either order, less any number that is the same
-for all, and as days of the year that add up; and packed into one word. `tables.py FILE ...` takes linked files; `--source FOLDER` looks
-through the numbers in Rattle files, words of bits that mark the long months included."""
+for all, and as days of the year that add up; packed into one word; and, in data and stored memory, by which months are alike, whatever
+numbers tell it. `tables.py FILE ...` takes linked files; `--source FOLDER` looks through the numbers in Rattle files, words of bits that
+mark the long months included."""
 
 import os
 import re
@@ -77,26 +78,50 @@ class Pattern:
 PATTERNS = {width: Pattern(width) for width in WIDTHS}
 
 
-def in_values(values, width=8, most_stride=3):
-    """The first place of a table in a list of numbers, or None."""
+def among(values, width=8, most_stride=3):
+    """Every place of a table in a list of numbers."""
     pattern = PATTERNS[width]
     for start in range(len(values)):
-        for stride in range(1, most_stride + 1):
-            if pattern.at(values, start, stride):
-                return start
-    return None
+        if any(pattern.at(values, start, stride) for stride in range(1, most_stride + 1)):
+            yield start
+
+
+def numbers_of(data, width, offset):
+    return [int.from_bytes(data[at:at + width], "little") for at in range(offset, len(data) - width + 1, width)]
 
 
 def in_bytes(data):
-    """The first place of a table in bytes, or None."""
+    """Every place of a table in bytes."""
     for width in WIDTHS:
-        for offset in range(min(width, len(data))):
-            count = (len(data) - offset) // width
-            values = [int.from_bytes(data[offset + i * width:offset + (i + 1) * width], "little") for i in range(count)]
-            found = in_values(values, width, MOST_STRIDE // width)
-            if found is not None:
-                return offset + found * width
-    return None
+        for offset in range(width):
+            for at in among(numbers_of(data, width, offset), width, MOST_STRIDE // width):
+                yield offset + at * width
+
+
+def are_alike(values, start):
+    """Whether eight numbers are alike where April to November are: one stands for the months of 30 days, another for May and October, and
+    July and August have the same, which a compiler may keep elsewhere."""
+    april, may, june, july, august, september, october, november = values[start:start + 8]
+    return april == june == september == november and may == october != april and july == august != april
+
+
+def weekday_steps(values):
+    """From each number to the next in days of the week, where both are such days; else a step that no month makes."""
+    return [(b - a) % 7 if a < 7 and b < 7 else 7 for a, b in zip(values, values[1:])]
+
+
+def loosely_in(data, offset=None):
+    """Every place where numbers side by side, or the steps between them, go as the months do: lengths in hours, in classes, as yes and no,
+    and sums in any unit, in weekdays too. `offset` is the first place at which a number may stand by its address."""
+    nine = [n % 7 for n in (LENGTHS * 2)[MARCH:MARCH + 9]]
+    for width in WIDTHS:
+        for first in range(width) if offset is None else [offset % width]:
+            values = numbers_of(data, width, first)
+            rises, weekdays = steps(values), weekday_steps(values)
+            for at in range(len(values) - 7):
+                rising = at + 8 <= len(rises) and are_alike(rises, at)
+                if are_alike(values, at) or rising or weekdays[at:at + 9] == nine:
+                    yield first + at * width
 
 
 def packed(entries, bits):
@@ -104,7 +129,7 @@ def packed(entries, bits):
 
 
 def packed_words():
-    """The lengths in one word of 64 bits: two to five bits each, as they are or less 28."""
+    """The lengths in one word of 64 bits, two to five bits each, less any number, or that number less them."""
     found = set()
     for february in (28, 29):
         year = [february if n == 28 else n for n in LENGTHS]
@@ -112,8 +137,14 @@ def packed_words():
             turned = year[first:] + year[:first]
             for order in (turned, turned[::-1]):
                 for bits in (2, 3, 4, 5):
-                    found |= {packed(order, bits), packed([n - 28 for n in order], bits)}
-    return found
+                    for base in range(1 << bits):
+                        found |= {packed([n - base for n in order], bits), packed([base - n for n in order], bits)}
+    return {without_zeros(word) for word in found}
+
+
+def without_zeros(word):
+    """A word moved down as far as it goes, as months may be counted from 0 or from 1."""
+    return word // (word & -word) if word else 0
 
 
 def bit_words():
@@ -123,7 +154,8 @@ def bit_words():
         turned = (LENGTHS * 2)[first:first + 12]
         for order in (turned, turned[::-1]):
             found |= {packed([n == 31 for n in order], 1), packed([n < 31 for n in order], 1), packed([n == 30 for n in order], 1)}
-    return found
+    # A word of a byte may well be something else.
+    return {without_zeros(word) for word in found if word > 255}
 
 
 PACKED = packed_words()
@@ -131,19 +163,7 @@ BITS = bit_words()
 
 
 def is_packed(word, words):
-    """Whether a word holds one of these, as it is or moved up by a place or two, as where months are counted from 1."""
-    word %= 1 << 64
-    return any(word >> moved in words and word % (1 << moved) == 0 for moved in (0, 1, 2, 3, 4, 5, 6, 8, 10))
-
-
-def every_place(data):
-    """Every place of a table in bytes."""
-    moved = 0
-    found = in_bytes(data)
-    while found is not None:
-        yield moved + found
-        moved += found + 1
-        found = in_bytes(data[moved:])
+    return word % (1 << 64) > 255 and without_zeros(word % (1 << 64)) in words
 
 
 def owner(address, image, seen):
@@ -157,21 +177,31 @@ def faults_of(path):
     """Every function and table of a linked file in which month lengths stand, in words, and what was looked through."""
     [image] = elf.images(path)
     seen = operands.functions(path, image)
-    faults = []
-    for section in image.loaded_data() + image.code():
-        for place in every_place(section.data):
-            fault = f"{section.name}, {owner(section.address + place, image, seen)}"
-            if fault not in faults:
-                faults.append(fault)
+    places = [(s, place) for s in image.loaded_data() + image.code() for place in in_bytes(s.data)]
+    places += [(s, place) for s in image.loaded_data() for place in loosely_in(s.data, -s.address)]
+    faults = [f"{section.name}, {owner(section.address + place, image, seen)}" for section, place in places]
     for function in seen:
-        if any(in_values(function.values[kind]) is not None for kind in operands.LISTS):
+        if any(True for kind in operands.LISTS for _ in among(function.values[kind])):
             faults.append(f"immediate operands of {function.name}")
-        if any(in_bytes(block) is not None for block in function.blocks):
+        if any(holds_table(block) for block in set(function.blocks)):
             faults.append(f"constants that {function.name} stores")
         if any(is_packed(word, PACKED) for word in function.words):
             faults.append(f"a word in {function.name}")
     data = sum(len(s.data) for s in image.loaded_data())
-    return faults, f"{len(seen)} functions, {sum(len(f.words) for f in seen)} immediate operands, {data} bytes of data"
+    return sorted(set(faults)), f"{len(seen)} functions, {sum(len(f.words) for f in seen)} immediate operands, {data} bytes of data"
+
+
+def holds_table(block):
+    return any(True for _ in in_bytes(block)) or any(True for _ in loosely_in(block))
+
+
+# With or without a type behind it.
+NUMBER = re.compile(r"\b(0x[0-9a-fA-F_]+?|0b[01_]+|[0-9][0-9_]*?)(?:[iu](?:8|16|32|64|size))?\b")
+
+
+def numbers_in(code):
+    without_comments = re.sub(r"//[^\n]*", "", code)
+    return [int(n, 0 if n[:2] in ("0x", "0b") else 10) for n in (m.replace("_", "") for m in NUMBER.findall(without_comments))]
 
 
 def source_faults(folder):
@@ -184,9 +214,8 @@ def source_faults(folder):
             count += 1
             path = os.path.join(place, name)
             with open(path, encoding="utf-8") as file:
-                code = re.sub(r"//[^\n]*", "", file.read())
-            numbers = [int(n.replace("_", ""), 0) for n in re.findall(r"\b(?:0x[0-9a-fA-F_]+|0b[01_]+|0|[1-9][0-9_]*)\b", code)]
-            if in_values(numbers) is not None or any(is_packed(n, PACKED | BITS) for n in numbers):
+                numbers = numbers_in(file.read())
+            if any(True for _ in among(numbers)) or any(is_packed(n, PACKED | BITS) for n in numbers):
                 faults.append(path)
     return faults, f"{count} Rattle files"
 
