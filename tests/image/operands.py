@@ -41,7 +41,6 @@ class Function:
         self.name = name
         self.image = image
         self.values = {kind: [] for kind in LISTS}
-        self.words = []
         self.refers = []
         self.blocks = []
         self.known = {}
@@ -62,7 +61,6 @@ class Function:
         value = int(parts[0][1:], 16)
         moves = operation.startswith("mov")
         self.values["every"].append(value)
-        self.words.append(value)
         if moves:
             self.values["moves"].append(value)
         if moves and "(" in parts[-1]:

@@ -2,6 +2,7 @@
 """The search for tables finds the tables that are put in: each form of the month lengths, compiled by gcc and by Rattle's own compiler and
 linked by itself, must be reported, and lengths that are worked out must not. Needs gcc and rt."""
 
+import functools
 import os
 import subprocess
 import sys
@@ -105,7 +106,7 @@ def compiled_c(work, level, text):
     return program
 
 
-def try_c(work, level):
+def try_c(level, work):
     missed = [name for name, text in c_sources() if not tables.faults_of(compiled_c(work, level, text))[0]]
     alarms = tables.faults_of(compiled_c(work, level, WORKED_OUT["C"]))[0]
     return report(f"gcc {level}", len(list(c_sources())), missed, alarms)
@@ -137,6 +138,26 @@ def in_code(faults):
     return [fault for fault in faults if not fault.startswith(".rodata")]
 
 
+# Lines of a Rattle file that hold a table; words of bits among them, which only a hand can have written there.
+SOURCES = (
+    "const LENGTHS: [u8; 12] = [31, 28, 31, 30, 31, 30, 31, 31, 30, 31, 30, 31];",
+    "const BEFORE: [u64; 12] = [0, 31, 59, 90, 120, 151, 181, 212, 243, 273, 304, 334];",
+    "30 + (0x15aau64 >> m) % 2",
+    "30 + (0b1010_1101_0101 >> (m - 1)) % 2",
+    "31 - (1320 >> (m - 1)) % 2",
+    "28 + (0xeefbb3 >> (2 * m - 2)) % 4",
+)
+
+
+def try_source(work):
+    missed = []
+    for line in SOURCES:
+        write(os.path.join(work, "line.rt"), f"// 31, 28, 31, 30, 31, 30, 31, 31, 30, 31, 30, 31\nfn length(m: u64) -> u64 {{ {line} }}\n")
+        missed += [] if tables.source_faults(work)[0] else [line]
+    write(os.path.join(work, "line.rt"), "// 31, 28, 31, 30, 31, 30, 31, 31, 30, 31, 30, 31\n" + WORKED_OUT["Rattle"])
+    return report("source", len(SOURCES), missed, tables.source_faults(work)[0])
+
+
 def report(what, count, missed, alarms):
     for name in missed:
         print(f"self-test: {what}: not found: {name}")
@@ -147,8 +168,10 @@ def report(what, count, missed, alarms):
 
 
 def main():
-    with tempfile.TemporaryDirectory() as work:
-        done = [try_c(work, level) for level in LEVELS] + [try_rattle(work)]
+    done = []
+    for one in (try_source, *(functools.partial(try_c, level) for level in LEVELS), try_rattle):
+        with tempfile.TemporaryDirectory() as work:
+            done.append(one(work))
     return 0 if all(done) else 1
 
 

@@ -163,7 +163,8 @@ BITS = bit_words()
 
 
 def is_packed(word, words):
-    return word % (1 << 64) > 255 and without_zeros(word % (1 << 64)) in words
+    word %= 1 << 64
+    return word > 255 and without_zeros(word) in words
 
 
 def owner(address, image, seen):
@@ -181,18 +182,19 @@ def faults_of(path):
     places += [(s, place) for s in image.loaded_data() for place in loosely_in(s.data, -s.address)]
     faults = [f"{section.name}, {owner(section.address + place, image, seen)}" for section, place in places]
     for function in seen:
-        if any(True for kind in operands.LISTS for _ in among(function.values[kind])):
+        if any(is_any(among(function.values[kind])) for kind in operands.LISTS):
             faults.append(f"immediate operands of {function.name}")
-        if any(holds_table(block) for block in set(function.blocks)):
+        if any(is_any(in_bytes(block)) or is_any(loosely_in(block)) for block in set(function.blocks)):
             faults.append(f"constants that {function.name} stores")
-        if any(is_packed(word, PACKED) for word in function.words):
+        if any(is_packed(word, PACKED) for word in function.values["every"]):
             faults.append(f"a word in {function.name}")
-    data = sum(len(s.data) for s in image.loaded_data())
-    return sorted(set(faults)), f"{len(seen)} functions, {sum(len(f.words) for f in seen)} immediate operands, {data} bytes of data"
+    count, data = sum(len(f.values["every"]) for f in seen), sum(len(s.data) for s in image.loaded_data())
+    return sorted(set(faults)), f"{len(seen)} functions, {count} immediate operands, {data} bytes of data"
 
 
-def holds_table(block):
-    return any(True for _ in in_bytes(block)) or any(True for _ in loosely_in(block))
+def is_any(places):
+    """Whether there is a place among these, which may be place 0."""
+    return next(iter(places), None) is not None
 
 
 # With or without a type behind it.
@@ -215,7 +217,7 @@ def source_faults(folder):
             path = os.path.join(place, name)
             with open(path, encoding="utf-8") as file:
                 numbers = numbers_in(file.read())
-            if any(True for _ in among(numbers)) or any(is_packed(n, PACKED | BITS) for n in numbers):
+            if is_any(among(numbers)) or any(is_packed(n, PACKED | BITS) for n in numbers):
                 faults.append(path)
     return faults, f"{count} Rattle files"
 
