@@ -1,7 +1,7 @@
 /*
- * A box that posts and shows the panel, and nothing else: it calls two functions of the library. Reads entries, 32 bytes each, from
- * standard input and prints accepted count, refused count and panel figure. Its ledger lies in storage that is all zeros, as an old
- * fresh one is.
+ * A box that posts and shows the panel, and nothing else: it calls two functions of the library. Its entries, 32 bytes each, come
+ * from standard input; its line is the panel program's, without an archive. Its ledger lies in storage that is all zeros, as an
+ * old fresh one is.
  */
 #include "nedrulov.h"
 
