@@ -10,6 +10,8 @@ Symbol = namedtuple("Symbol", "name section address size is_function")
 ALLOCATED, EXECUTABLE = 2, 4
 NO_BITS, SYMBOL_TABLE = 8, 2
 OBJECT, FUNCTION = 1, 2
+# From here on a symbol's section is none of the file's.
+NO_SECTION = 0xff00
 
 
 class Image:
@@ -66,7 +68,7 @@ def string(data, at):
 def symbols(data, offset, count, strings):
     for i in range(count):
         name, info, _, section, address, size = struct.unpack_from("<IBBHQQ", data, offset + 24 * i)
-        if info % 16 in (OBJECT, FUNCTION) and section:
+        if info % 16 in (OBJECT, FUNCTION) and 0 < section < NO_SECTION:
             yield Symbol(string(data, strings + name), section, address, size, info % 16 == FUNCTION)
 
 
