@@ -1,6 +1,6 @@
 /*
- * The bank recorder's library: postings to a gas-bank ledger under Rider EFBS, the panel figure, the archive, and the
- * back-cast from the weather.
+ * The bank recorder's library: postings to a gas-bank ledger under Rider EFBS, the panel figure, the archive, the
+ * back-cast from the weather, and who can take a supplier's gas.
  *
  * Memory. The caller owns everything: ledgers, entries, lists, archives and outputs. The library allocates nothing,
  * keeps no pointer and no state between calls, and writes only to what it is lent as a pointer to non-const.
@@ -266,6 +266,23 @@ typedef struct {
  */
 nedrulov_back_cast_answer nedrulov_back_cast(nedrulov_load_curve curve, double temperature);
 
+/* ---- who can take gas */
+
+typedef struct {
+    uint64_t number;                /* 0, 4, 6, 20, 21 or 24; with a refusal the rest is 0 */
+    uint64_t count;                 /* how many partners there are, 0 to 15 */
+    uint64_t accounts[NEDRULOV_ACCOUNTS];   /* their account numbers, the most headroom first; 0 past the count */
+} nedrulov_partner_list;
+
+/*
+ * Every open account but the seller that could take the quantity, in units, on the ledger's day: its bank does not end above
+ * the month's maximum. None is listed if the seller's bank would end below the month's minimum. The account with most
+ * headroom comes first, which is maximum * BCQ - bank before the gas moves; of equal ones the lower number. So an account is
+ * listed exactly when a TRANSFER of that day and quantity from the seller to it, posted now, is answered with 0.
+ * 4 if the seller is above 15, 6 if the quantity is not 1 to 1,000,000,000, then 20, 21, and 24 if the seller is not open.
+ */
+nedrulov_partner_list nedrulov_partners(nedrulov_ledger ledger, uint64_t seller, uint64_t quantity);
+
 /* ---- for programs that show where a figure comes from */
 
 typedef struct {
@@ -319,6 +336,8 @@ NEDRULOV_ASSERT(size_of_double, sizeof(double) == 8);
 NEDRULOV_ASSERT(size_of_load_curve, sizeof(nedrulov_load_curve) == 24);
 NEDRULOV_ASSERT(turning_offset, offsetof(nedrulov_load_curve, turning) == 16);
 NEDRULOV_ASSERT(size_of_back_cast_answer, sizeof(nedrulov_back_cast_answer) == 16);
+NEDRULOV_ASSERT(size_of_partner_list, sizeof(nedrulov_partner_list) == 144);
+NEDRULOV_ASSERT(partners_offset, offsetof(nedrulov_partner_list, accounts) == 16);
 
 #ifdef __cplusplus
 }

@@ -13,14 +13,14 @@ STRUCTS = {
     "Report": "nedrulov_report", "Answer": "nedrulov_answer", "Posted": "nedrulov_posted",
     "Panel": "nedrulov_panel_answer", "Checked": "nedrulov_checked", "Place": "nedrulov_section_place",
     "Written": "nedrulov_written", "Figures": "nedrulov_replay_figures", "Band": "nedrulov_band_limits",
-    "LoadCurve": "nedrulov_load_curve", "BackCast": "nedrulov_back_cast_answer",
+    "LoadCurve": "nedrulov_load_curve", "BackCast": "nedrulov_back_cast_answer", "PartnerList": "nedrulov_partner_list",
 }
 SOURCES = (
     "crates/tariff/src/dates.rt", "crates/tariff/src/terms.rt", "crates/tariff/src/steps.rt",
     "crates/tariff/src/bill.rt", "crates/ledger/src/state.rt", "crates/ledger/src/answers.rt",
     "crates/ledger/src/panels.rt", "crates/archive/src/entries.rt", "crates/archive/src/reading.rt",
     "crates/archive/src/writing.rt", "crates/archive/src/replaying.rt", "crates/backcast/src/curves.rt",
-    "crates/backcast/src/answers.rt", "crates/nedrulov/src/lib.rt",
+    "crates/backcast/src/answers.rt", "crates/partners/src/answers.rt", "crates/nedrulov/src/lib.rt",
 )
 # A tuple struct of one number is that number on the other side.
 NUMBERS = {"Units": "i64", "Mills": "i64", "Quantity": "u64", "Dth": "u64", "Mcf": "u64", "Month": "u64"}

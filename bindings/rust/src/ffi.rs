@@ -1,5 +1,5 @@
 // The functions of the static library. A slice passes as a pointer and then a length.
-use crate::{Answer, BackCast, Band, Checked, Figures, Ledger, LoadCurve, Panel, Place, Posted, Written};
+use crate::{Answer, BackCast, Band, Checked, Figures, Ledger, LoadCurve, Panel, PartnerList, Place, Posted, Written};
 
 extern "C" {
     pub fn nedrulov_fresh(is_new: bool) -> Ledger;
@@ -22,4 +22,5 @@ extern "C" {
     pub fn nedrulov_amount(retainage: u64, delivered: u64, back_cast: u64) -> i64;
     pub fn nedrulov_band(month: u64, bcq: u64) -> Band;
     pub fn nedrulov_back_cast(curve: LoadCurve, temperature: f64) -> BackCast;
+    pub fn nedrulov_partners(ledger: Ledger, seller: u64, quantity: u64) -> PartnerList;
 }

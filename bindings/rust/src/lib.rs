@@ -213,6 +213,15 @@ pub struct BackCast {
     pub quantity: u64,
 }
 
+/// Who can take gas of a seller: the account numbers of the first `count` places, the most headroom first, and 0 past them.
+#[repr(C)]
+#[derive(Clone, Copy, Debug, PartialEq, Eq)]
+pub struct PartnerList {
+    pub number: u64,
+    pub count: u64,
+    pub accounts: [u64; ACCOUNTS],
+}
+
 /// A ledger with no terms, no date and no open account, old or new.
 pub fn fresh(is_new: bool) -> Ledger {
     unsafe { ffi::nedrulov_fresh(is_new) }
@@ -295,4 +304,11 @@ pub fn band(month: u64, bcq: u64) -> Band {
 /// itself before. 31 if one of the four is infinite or not a number, 32 if the load is not from 0 to 10^9.
 pub fn back_cast(curve: LoadCurve, temperature: f64) -> BackCast {
     unsafe { ffi::nedrulov_back_cast(curve, temperature) }
+}
+
+/// Every open account but the seller that could take the quantity, in units, on the ledger's day under the month's maximum,
+/// the most headroom first and the lower number among equals; none where the seller would fall below its minimum. 4, 6, 20,
+/// 21 or 24, with an empty list, as a TRANSFER would get them of the seller's side.
+pub fn partners(ledger: Ledger, seller: u64, quantity: u64) -> PartnerList {
+    unsafe { ffi::nedrulov_partners(ledger, seller, quantity) }
 }

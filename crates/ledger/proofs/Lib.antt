@@ -17,6 +17,7 @@ pub mod EveryPosting
 pub mod FreshLedger
 pub mod Figures
 pub mod Fields
+pub mod Transfers
 pub mod OldKinds
 pub mod OldLedgers
 pub mod AlikeLedgers

@@ -62,10 +62,14 @@ module _ (e : Entry) (h : fieldNumber e ≡ 0) where
   unfolding someUnits
   units-fit w t = leb-true w 1000000000 (and-right (leb 1 w) (leb w 1000000000) t)
 
+  pub transfer-units : e .kind ≡ kinds.TRANSFER → someUnits (e .w1) ≡ true
+  unfolding wordsInRange lookup
+  transfer-units k = and-left (someUnits (e .w1)) (someUnits (e .w2)) (rw k at words-fit)
+
   pub transfer-fits : e .kind ≡ kinds.TRANSFER → (e .w1 ≤ 1000000000) × (e .a ≡ e .b → ⊥)
-  unfolding wrongTransfer wordsInRange lookup
+  unfolding wrongTransfer
   transfer-fits k = (
-    units-fit (e .w1) (and-left (someUnits (e .w1)) (someUnits (e .w2)) (rw k at words-fit)),
+    units-fit (e .w1) (transfer-units k),
     eqb-false (e .a) (e .b) (or-left (eqb (e .a) (e .b)) (not (eqb (e .w1) (e .w2))) (rw (eq-eqb (e .kind) 4 k) at right-transfer)),
   )
 

@@ -36,14 +36,14 @@ forfeit-part m bcq bank =
 
 -- ---- what is left
 
-abbrev Between : ℕ → ℕ → ℤ → Type 0
+abbrev pub Between : ℕ → ℕ → ℤ → Type 0
 Between low high z = leZ (negℤ (pos low)) z && leZ z (pos high) ≡ true
 
-not-below : (low high n : ℕ) → n ≤ high → Between low high (pos n)
+pub not-below : (low high n : ℕ) → n ≤ high → Between low high (pos n)
 not-below zero high n h = rw (le-leb 0 n (omega arith)) (le-leb n high h)
 not-below (suc low) high n h = le-leb n high h
 
-left-between : (low high : ℕ) (z : ℤ) (f : ℕ) → f ≤ positivePart z → Between low high z → Between low high (z -ℤ pos f)
+pub left-between : (low high : ℕ) (z : ℤ) (f : ℕ) → f ≤ positivePart z → Between low high z → Between low high (z -ℤ pos f)
 unfolding positivePart
 left-between low high z zero p h = rw (+ℤ-idr z) h
 left-between low high (pos n) (suc q) p h =

@@ -5,10 +5,12 @@ use mathlib.Core.Bool.{Bool, true, cond, _&&_}
 use native.Mathlib.Omega.{arith}
 use lib.Dec.{leb}
 use lib.Signed.{leZ}
-use borrow.Author.Tests.{le-leb}
+use borrow.Author.Tests.{le-leb, eq-eqb}
 use lib.IntN.{ℤ, pos, negsuc, _+ℤ_, _-ℤ_, negℤ, +ℤ-idl, +ℤ-idr}
 use Rattle.tariff.specs.Amounts.{nothing, amountOf, sum, more, less, opposite, positivePart, inward, outward, within, size, together, added, withinMills, sizeMills}
-use Rattle.tariff.specs.Structs.{Mills, Quantity, Step, Units}
+use Rattle.tariff.specs.Dates.{sameDate}
+use Rattle.tariff.specs.Months.{sameMonth}
+use Rattle.tariff.specs.Structs.{Date, Mills, Quantity, Step, Units}
 use Rattle.tariff.specs.Closing.{forfeitUnder}
 use Rattle.tariff.specs.Steps.{settledStep}
 use Rattle.tariff.proofs.Signed.{size-between}
@@ -92,6 +94,12 @@ within-zero low high a h = rw h (zero-between low high)
 pub within-mills-zero : (n : ℕ) (m : Mills) → m .0 ≡ pos 0 → withinMills n m ≡ true
 unfolding withinMills
 within-mills-zero n m h = rw h (zero-between n n)
+
+-- ---- dates
+
+pub same-date : (d : Date) → sameDate d d ≡ true
+unfolding sameDate sameMonth
+same-date d = rw (eq-eqb (d .year) (d .year) refl, eq-eqb (d .month .0) (d .month .0) refl, eq-eqb (d .day) (d .day) refl)
 
 -- ---- steps
 

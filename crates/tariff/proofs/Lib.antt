@@ -5,6 +5,8 @@ pub mod Sizes
 pub mod Tables
 pub mod Results
 pub mod Forfeits
+pub mod Bands
+pub mod Comparisons
 pub mod Calendar
 pub mod NextDays
 pub mod Laws

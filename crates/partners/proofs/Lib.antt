@@ -1,0 +1,2 @@
+-- The lemmas that several proofs go by.
+pub mod Lists
