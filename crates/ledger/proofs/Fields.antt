@@ -1,14 +1,14 @@
--- What the bytes of an entry tell the layers above: where its kind and its date stand, and how long one of the right form is.
+-- What the bytes of an entry tell the layers above: where its kind and its date stand, how long one of the right form is, and which quantities change hands.
 use Prim.Native.Nat.{ℕ, _+_, _*_}
 use mathlib.Core.Path.{_≡_, refl}
-use mathlib.Core.Bool.{Bool, true, false, cond}
+use mathlib.Core.Bool.{Bool, true, false, cond, _&&_}
 use mathlib.Core.List.{List}
 use native.Mathlib.Omega.{arith}
-use lib.Dec.{eqb}
+use lib.Dec.{eqb, leb}
 use lib.ListN.{length, getD}
 use borrow.Author.Tests.{eqb-true}
 use Rattle.ledger.specs.Entries.{byteAt, entryOf, halfAt, wordAt}
-use Rattle.ledger.specs.Forms.{entryNumber, formNumber}
+use Rattle.ledger.specs.Forms.{entryNumber, formNumber, someUnits}
 
 module _ (bytes : List ℕ) where
   pub kind-byte : entryOf bytes .kind ≡ getD bytes 0 0
@@ -38,3 +38,7 @@ module _ (bytes : List ℕ) where
       whole : (b : Bool) (n : ℕ) → cond b n 1 ≡ 0 → b ≡ true
       whole true n h = refl
       whole false n h = absurd (omega arith)
+
+pub units-between : (w : ℕ) → someUnits w ≡ leb 1 w && leb w 1000000000
+unfolding someUnits
+units-between w = refl

@@ -18,6 +18,15 @@ pub first : (b : Bool) (n rest : ℕ) → not (eqb n 0) ≡ true → cond b n re
 first true n rest t h = absurd (false≢true (rw h at t))
 first false n rest t h = (refl, h)
 
+-- for the layers above: a verdict is made check by check
+pub verdict-none : verdict [] ≡ 0
+unfolding verdict
+verdict-none = refl
+
+pub verdict-next : (c : Check) (cs : List Check) → verdict (c ∷ cs) ≡ cond (c .0) (c .1) (verdict cs)
+unfolding verdict
+verdict-next c cs = refl
+
 -- where the verdict is 0, check i finds nothing
 pub clear : (cs : List Check) → numbered cs ≡ true → verdict cs ≡ 0 → (i : ℕ) → getD cs i (false, 0) .0 ≡ false
 unfolding verdict

@@ -1,2 +1,3 @@
 -- The lemmas that several proofs go by.
-pub mod Lists
+pub mod Numbers
+pub mod Placing

@@ -1,7 +1,10 @@
 // What is answered: a number, and the partners' account numbers.
 ghost use mathlib.Core.Path.{_≡_};
-ghost use mathlib.Core.List.{[]};
+ghost use mathlib.Core.List.{[], map};
+ghost use Rattle.partners.specs.Structs.{Partner};
 ghost use Rattle.partners.specs.Listing.{answer};
+use crate::order::Partner;
+use crate::places::Places;
 
 #[repr(C)]
 pub struct PartnerList {
@@ -18,6 +21,22 @@ pub fn nobody(n: u64) -> PartnerList
     PartnerList {
         number: n,
         count: 0,
+        accounts,
+    }
+}
+
+pub fn listed(places: Places) -> PartnerList
+    ensures { λ r. ⌜ r ≡ record { number = 0; count = places .count; accounts = map (λ (p : Partner). p .account) (places .partners) } ⌝ }
+{
+    let partners = places.partners;
+    let mut accounts = [0; 16];
+    for k in 0..16 {
+        let p = partners[k];
+        accounts[k] = p.account;
+    }
+    PartnerList {
+        number: 0,
+        count: places.count as u64,
         accounts,
     }
 }
