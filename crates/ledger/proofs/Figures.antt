@@ -1,13 +1,13 @@
 -- The panel of a sound ledger shows its open banks, one for each account from the first on; what stands at a place of the accounts is the account there.
-use Prim.Native.Nat.{ℕ, zero, suc, _<_}
+use Prim.Native.Nat.{ℕ, zero, suc, _≤_, _<_}
 use mathlib.Core.Path.{_≡_, refl}
-use mathlib.Core.Bool.{cond}
+use mathlib.Core.Bool.{cond, false}
 use mathlib.Core.List.{List, [], _∷_}
 use lib.IntN.{pos, _+ℤ_}
 use native.Mathlib.Omega.{arith}
-use lib.ListN.{getD, length}
+use lib.ListN.{getD, length, List·getD-eq-default}
 use Rattle.ledger.specs.Ranges.{inRange}
-use Rattle.ledger.specs.State.{nobody, accountAt}
+use Rattle.ledger.specs.State.{nobody, noTotals, noMonth, noToday, accountAt}
 use Rattle.ledger.specs.Panel.{openBank, bankOf, openBanks, panelOf}
 use Rattle.ledger.specs.Structs.{Account, Ledger}
 use Rattle.ledger.proofs.OneStep.{Sound}
@@ -41,3 +41,8 @@ same-place (x ∷ xs) (suc i) d e h = same-place xs i d e (omega arith)
 pub account-there : (l : Ledger) (i : ℕ) (d : Account) → i < length (l .accounts) → getD (l .accounts) i d ≡ accountAt l i
 unfolding accountAt
 account-there l i d h = same-place (l .accounts) i d nobody h
+
+-- beyond the last account nobody is open
+pub none-beyond : (l : Ledger) (i : ℕ) → length (l .accounts) ≤ i → accountAt l i .opened ≡ false
+unfolding accountAt nobody noTotals noMonth noToday
+none-beyond l i h = rw (List·getD-eq-default (l .accounts) nobody h)
