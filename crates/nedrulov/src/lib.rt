@@ -15,6 +15,7 @@ ghost use Rattle.archive.specs.Reading.{isNew, checked, placeOf};
 ghost use Rattle.archive.specs.Replay.{figuresOf};
 ghost use Rattle.archive.specs.YearSheet.{sheetOf};
 ghost use Rattle.backcast.specs.Answers.{backCast};
+ghost use Rattle.partners.specs.Listing.{partnersOf};
 ghost use Rattle.nedrulov.specs.Cells.{cellsAfter};
 ghost use Rattle.nedrulov.specs.Amounts.{deliveryAmount};
 ghost use Rattle.nedrulov.specs.Limits.{bandOf};
@@ -29,6 +30,7 @@ use ledger::Answer;
 use ledger::Ledger;
 use ledger::Panel;
 use ledger::Posted;
+use partners::PartnerList;
 use tariff::amounts::Dth;
 use tariff::amounts::Quantity;
 use tariff::bounds::MOST_BCQ;
@@ -170,4 +172,12 @@ pub extern "C" fn nedrulov_back_cast(curve: LoadCurve, temperature: f64) -> Back
     ensures { λ r. ⌜ r ≡ backCast curve temperature ⌝ }
 {
     backcast::back_cast(curve, temperature)
+}
+
+// Who could take a quantity of a seller's gas today, in order.
+#[no_mangle]
+pub extern "C" fn nedrulov_partners(ledger: Ledger, seller: u64, quantity: u64) -> PartnerList
+    ensures { λ r. ⌜ r ≡ partnersOf ledger seller quantity ⌝ }
+{
+    partners::partners(ledger, seller, quantity)
 }

@@ -5,3 +5,4 @@ pub mod Order
 pub mod Listing
 pub mod EveryList
 pub mod Transfers
+pub mod WorkedCases

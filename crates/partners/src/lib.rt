@@ -11,6 +11,7 @@ ghost use mathlib.Core.Path.{_≡_};
 ghost use Rattle.partners.specs.EveryList.{EveryList, EveryOrder, OnlyOne};
 ghost use Rattle.partners.specs.Listing.{partnersOf};
 ghost use Rattle.partners.specs.Transfers.{ListedCanBeSent};
+ghost use Rattle.partners.specs.WorkedCases.{WorkedCases};
 use crate::answers::listed;
 use crate::answers::nobody;
 use crate::finding::number;
@@ -41,4 +42,9 @@ pub fn every_list()
 // R99: those listed, and no others, could be sent the gas now.
 pub fn listed_can_be_sent()
     ensures { λ r. ⌜ ListedCanBeSent ⌝ }
+{}
+
+// R100: cases worked out in advance, as one group.
+pub fn worked_cases()
+    ensures { λ r. ⌜ WorkedCases ⌝ }
 {}
