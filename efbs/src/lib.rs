@@ -16,6 +16,7 @@ pub mod entry;
 pub mod failure;
 pub mod files;
 pub mod form;
+pub mod json;
 pub mod lines;
 pub mod movements;
 pub mod pages;
