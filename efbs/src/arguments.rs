@@ -9,6 +9,8 @@ use std::ffi::{OsStr, OsString};
 use std::os::unix::ffi::OsStrExt;
 use std::path::Path;
 
+const AN_ACCOUNT: &str = "an account from 0 to 15";
+
 /// What stands beside options, by name: words that must be there, and one that may follow any number of times.
 pub struct Operands {
     pub each: &'static [&'static str],
@@ -173,9 +175,23 @@ impl Arguments {
         self.operands.iter().map(temperature).collect()
     }
 
+    /// Gas in units, of an option that must be there.
+    pub fn units(&self, option: &str) -> Result<u64, Failure> {
+        let units = self.read(option, decimal::EXPECTED_GAS, decimal::units)?;
+        units.ok_or_else(|| missing(option))
+    }
+
     pub fn account(&self) -> Result<Option<usize>, Failure> {
         let read = |text: &str| text.parse().ok().filter(|account| *account < ACCOUNTS);
-        self.read("--account", "an account from 0 to 15", read)
+        self.read("--account", AN_ACCOUNT, read)
+    }
+
+    /// An account for the library to judge, of an option that must be there: any whole number.
+    pub fn any_account(&self, option: &str) -> Result<u64, Failure> {
+        let digits = |text: &str| text.bytes().all(|byte| byte.is_ascii_digit());
+        let read = |text: &str| text.parse().ok().filter(|_| digits(text));
+        let account = self.read(option, AN_ACCOUNT, read)?;
+        account.ok_or_else(|| missing(option))
     }
 
     pub fn until(&self) -> Result<Option<Day>, Failure> {

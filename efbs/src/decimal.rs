@@ -1,7 +1,10 @@
-//! Plain decimals, and the doubles that the library is handed for them.
+//! Plain decimals, and what the library is handed for them: doubles, or whole units of gas.
 
 /// What a reader has to write: digits, if need be with a sign before them and a point between them.
 pub const EXPECTED: &str = "a number, as 31.7 or -0.5";
+/// The same of gas that is counted in whole units.
+pub const EXPECTED_GAS: &str =
+    "Dth from 0.01 to 10000000.00 with at most two decimals, as 1500 or 1500.25";
 
 /// A number as it was written, and its double; one too large for any is an infinity, which the library refuses.
 #[derive(Clone, Copy, Debug, PartialEq)]
@@ -30,6 +33,15 @@ fn shifted(text: &str, places: u32) -> Option<Decimal<'_>> {
     }
     let double = format!("{text}e{places}").parse().ok()?;
     Some(Decimal { text, double })
+}
+
+/// Dth in units, exactly: the point is moved in the text. None where there is a sign, a third decimal, or more than u64
+/// can hold.
+pub fn units(text: &str) -> Option<u64> {
+    let (whole, part) = text.split_once('.').unwrap_or((text, "0"));
+    let right = is_plain(text) && !text.starts_with(['-', '+']) && part.len() <= 2;
+    let digits = format!("{whole}{part:0<2}");
+    digits.parse().ok().filter(|_| right)
 }
 
 /// No exponent, no words for what is not finite, no comma; a point has digits on both sides.
@@ -83,6 +95,37 @@ mod tests {
         }
         let read = |word: &&str| Decimal::degrees(word).is_some();
         assert_eq!(EXPECTED.split(' ').filter(read).count(), 2, "the examples");
+    }
+
+    #[test]
+    fn units_of_gas_are_exact() {
+        for (text, due) in [
+            ("0", 0),
+            ("0.00", 0),
+            ("0.01", 1),
+            ("0.29", 29),
+            ("1500", 150_000),
+            ("1500.5", 150_050),
+            ("1500.05", 150_005),
+            ("1500.25", 150_025),
+            ("007.10", 710),
+            ("10000000.01", 1_000_000_001),
+            // 2^53 + 1, which no double is.
+            ("90071992547409.93", 9_007_199_254_740_993),
+            ("184467440737095516.15", u64::MAX),
+        ] {
+            assert_eq!(units(text), Some(due), "{text}");
+        }
+        let words = "- + . 5. .5 -5 +5 -0 1.500 0.001 1e3 1.5e3 1,000 1.5.5 1_0 inf nan 0x10 \
+                     \u{663} 184467440737095516.16 184467440737095517 99999999999999999999999";
+        for text in words.split(' ').chain(["", " ", " 5", "5 ", "5\n", "5.\0"]) {
+            assert_eq!(units(text), None, "{text:?}");
+        }
+        let examples = EXPECTED_GAS.split(' ').filter_map(units);
+        assert_eq!(
+            examples.collect::<Vec<_>>(),
+            [1, 1_000_000_000, 150_000, 150_025]
+        );
     }
 
     #[test]
