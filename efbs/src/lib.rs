@@ -20,6 +20,7 @@ pub mod json;
 pub mod lines;
 pub mod movements;
 pub mod pages;
+pub mod partners;
 pub mod readings;
 pub mod replay;
 pub mod report;
