@@ -41,6 +41,9 @@ const SLOPE: &str = "--slope";
 const TURNING: &str = "--turning";
 const TEMPERATURES: &str = "--temperatures";
 const CSV: &str = "--csv";
+const SELLER: &str = "--seller";
+const QUANTITY: &str = "--quantity";
+const JSON: &str = "--json";
 
 const fn flag(name: &'static str) -> Opt {
     Opt {
@@ -66,8 +69,8 @@ const fn output(file: &'static str, required: bool) -> Opt {
     }
 }
 
-pub const COMMANDS: [Command; 9] = [
-    PACK, UNPACK, PANEL, LOG, STATEMENT, JOURNAL, SHEET, REPORT, BACKCAST,
+pub const COMMANDS: [Command; 10] = [
+    PACK, UNPACK, PANEL, LOG, STATEMENT, JOURNAL, SHEET, REPORT, PARTNERS, BACKCAST,
 ];
 
 const PACK: Command = Command {
@@ -173,6 +176,27 @@ const REPORT: Command = Command {
     about: "a page with the gas year that begins in April of YEAR",
     help: "The page is one file and needs no other; any browser shows it.",
     run: write_report,
+};
+
+const PARTNERS: Command = Command {
+    name: "partners",
+    operands: ARCHIVE,
+    options: &[needed(SELLER, "N"), needed(QUANTITY, "DTH"), flag(JSON)],
+    input: first_operand,
+    about: "who can take a supplier's gas, as the ledger stands after the last entry",
+    help: "\
+Every other open account that could take the quantity on the ledger's day: a transfer of that day from the seller to it
+is accepted, and to any other account refused. Most headroom comes first, which is the month's maximum less the bank; of
+equal ones the lower number. Where there is nobody the page says why. It shows what is in other suppliers' banks. Exit
+status 1 if the question is refused.
+  --seller N       the account that has the gas
+  --quantity DTH   how much of it, in Dth with at most two decimals, as 1500 or 1500.25
+  --json           one object, all its gas in whole hundredths of a Dth: number, date, month, seller, bank and minimum
+                   of the seller, quantity, partners (each with account, bank, maximum and headroom), why; the number
+                   is 0 or that of the refusal, and why is null where there are partners
+Try: efbs partners target/gas-year.efb --seller 0 --quantity 1500
+It lists accounts 2, 1 and 3, with 12,245.80 Dth of headroom and less.",
+    run: write_partners,
 };
 
 const BACKCAST: Command = Command {
@@ -313,6 +337,14 @@ fn write_report(arguments: &Arguments, out: &mut dyn Write) -> Result<(), Failur
     let year = arguments.year(1)?;
     of_archive(arguments, |archive| {
         Ok(out.write_all(report(archive, year)?.as_bytes())?)
+    })
+}
+
+fn write_partners(arguments: &Arguments, out: &mut dyn Write) -> Result<(), Failure> {
+    let (seller, quantity) = (arguments.any_account(SELLER)?, arguments.units(QUANTITY)?);
+    let json = arguments.has(JSON);
+    of_archive(arguments, |archive| {
+        pages::partners::write(archive, seller, quantity, json, out)
     })
 }
 

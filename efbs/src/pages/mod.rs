@@ -3,6 +3,7 @@
 pub mod backcast;
 pub mod journal;
 pub mod log;
+pub mod partners;
 pub mod sheet;
 pub mod statement;
 
