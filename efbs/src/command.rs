@@ -185,10 +185,10 @@ const PARTNERS: Command = Command {
     input: first_operand,
     about: "who can take a supplier's gas, as the ledger stands after the last entry",
     help: "\
-Every other open account that could take the quantity on the ledger's day: a transfer of that day from the seller to it
-is accepted, and to any other account refused. Most headroom comes first, which is the month's maximum less the bank; of
-equal ones the lower number. Where there is nobody the page says why. It shows what is in other suppliers' banks. Exit
-status 1 if the question is refused.
+Every other open account that could take the quantity on the ledger's day: a transfer of that day and quantity from the
+seller to it is accepted, and to any other account refused. Most headroom comes first, which is the month's maximum less
+the bank; of equal ones the lower number. Where there is nobody the page says why. It shows what is in other suppliers'
+banks. Exit status 1 if the question is refused.
   --seller N       the account that has the gas
   --quantity DTH   how much of it, in Dth with at most two decimals, as 1500 or 1500.25
   --json           one object, all its gas in whole hundredths of a Dth: number, date, month, seller, bank and minimum
