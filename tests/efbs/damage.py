@@ -15,7 +15,8 @@ READERS = (
 )
 # These answer in their own way: the damage may have taken the account's enrolment, and a text is no archive.
 OTHERS = (
-    ["log", "FILE", "--account", "0", "--refused"], ["pack", "FILE", "-o", "-"],
+    ["log", "FILE", "--account", "0", "--refused"], ["partners", "FILE", "--seller", "0", "--quantity", "1"],
+    ["pack", "FILE", "-o", "-"],
     ["backcast", "--base", "520", "--slope", "61.75", "--turning", "65", "31.7", "--temperatures", "FILE"],
 )
 COMMANDS = READERS + OTHERS
