@@ -3,8 +3,9 @@
 //!
 //! From the bottom up: dates and the month's percentages, tariff arithmetic,
 //! the 32-byte entry, the ledger with its ranges and panel, the postings with
-//! the two closings, and the archive above them all. The back-cast from the
-//! weather stands beside them, on an arithmetic of doubles of its own.
+//! the two closings, and the archive above them all. The partner list reads a
+//! ledger and posts nothing. The back-cast from the weather stands beside them,
+//! on an arithmetic of doubles of its own.
 //!
 //! Ledgers and archives are old or new. Only the new ones have CONFISCATED,
 //! and forfeit no more than it posts; one parameter carries that through.
@@ -23,6 +24,7 @@ mod double;
 pub mod entry;
 pub mod ledger;
 pub mod number;
+pub mod partners;
 pub mod posting;
 mod tariff;
 
@@ -31,4 +33,5 @@ pub use backcast::{back_cast, BackCast, Curve};
 pub use calendar::{Date, Month};
 pub use entry::{entry_number, Entry, Posting};
 pub use ledger::{panel, Account, Ledger, Prices, Terms};
+pub use partners::{partners, PartnerList};
 pub use posting::{post, Answer, Report};

@@ -10,11 +10,11 @@ pub const LENGTH: u64 = 1;
 pub const KIND: u64 = 2;
 /// The calendar of 2000 to 2099 has no such day.
 pub const DATE: u64 = 3;
-/// A used account is above 15.
+/// A used account, or the seller of a partner list, is above 15.
 pub const ACCOUNT: u64 = 4;
 /// Something is set that the kind does not use.
 pub const UNUSED: u64 = 5;
-/// A word is too small or too large.
+/// A word, or the quantity of a partner list, is too small or too large.
 pub const WORD: u64 = 6;
 /// TRANSFER of A to A, or w1 and w2 differ.
 pub const TRANSFER: u64 = 7;
@@ -41,7 +41,8 @@ pub const NOT_BEGUN: u64 = 21;
 pub const OTHER_DATE: u64 = 22;
 /// The kind is not for this day.
 pub const WRONG_DAY: u64 = 23;
-/// The account is open and the kind ENROL, or neither.
+/// The account is open and the kind ENROL, or neither; or the seller of a
+/// partner list is not open.
 pub const OPEN: u64 = 24;
 /// The supplier is not served under EFBS.
 pub const STAYS: u64 = 25;

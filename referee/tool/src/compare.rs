@@ -1,8 +1,8 @@
-//! The command that compares: cases of six kinds from seeds, up to the first difference.
+//! The command that compares: cases of seven kinds from seeds, up to the first difference.
 
 use crate::random::Random;
 use crate::run::{Run, Same};
-use crate::{backcasts, boundaries, damage, hostile, noise, years};
+use crate::{backcasts, boundaries, damage, hostile, noise, partners, years};
 use std::panic::{catch_unwind, AssertUnwindSafe};
 use std::time::{Duration, Instant};
 
@@ -14,7 +14,7 @@ struct Kind {
     cases: u64,
 }
 
-const KINDS: [Kind; 6] = [
+const KINDS: [Kind; 7] = [
     Kind {
         letter: "a",
         name: "valid gas years",
@@ -50,6 +50,12 @@ const KINDS: [Kind; 6] = [
         name: "back-casts",
         case: backcasts::case,
         cases: 50,
+    },
+    Kind {
+        letter: "g",
+        name: "partner lists",
+        case: partners::case,
+        cases: 100,
     },
 ];
 

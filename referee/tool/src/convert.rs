@@ -136,6 +136,14 @@ pub fn answer(answer: &referee::Answer) -> library::Answer {
     }
 }
 
+pub fn partner_list(list: &referee::PartnerList) -> library::PartnerList {
+    library::PartnerList {
+        number: list.number,
+        count: list.count as u64,
+        accounts: list.accounts,
+    }
+}
+
 #[cfg(test)]
 mod tests {
     use super::*;

@@ -20,7 +20,7 @@ pub fn month(number: u64) -> &'static str {
 
 const NUMBERS: Columns = &["0", "31", "32"];
 
-const GROUPS: [(&str, Rows); 5] = [
+const GROUPS: [(&str, Rows); 6] = [
     (
         "in accepted closings and elsewhere",
         &[
@@ -126,6 +126,67 @@ const GROUPS: [(&str, Rows); 5] = [
             (
                 "another rounding would differ, or did",
                 &["fused", "to nearest", "subnormal product"],
+            ),
+        ],
+    ),
+    (
+        "partner lists",
+        &[
+            (
+                "asked of",
+                &[
+                    "banks at the limits",
+                    "the same, spoilt",
+                    "any ledger",
+                    "gas years",
+                ],
+            ),
+            ("4 by a seller of", &["16", "more"]),
+            ("6 by a quantity of", &["0", "10^9 + 1", "more"]),
+            (
+                "a refusal that hides another",
+                &["4 over 6", "6 over 20", "20 over 21", "21 over 24"],
+            ),
+            (
+                "listed",
+                &[
+                    "none, seller's minimum",
+                    "none, nobody fits",
+                    "none, nobody else open",
+                    "one",
+                    "several",
+                    "all fifteen",
+                ],
+            ),
+            (
+                "listed some in",
+                &[
+                    "Jan", "Feb", "Mar", "Apr", "May", "Jun", "Jul", "Aug", "Sep", "Oct", "Nov",
+                    "Dec",
+                ],
+            ),
+            ("listed some for", &["1 unit", "10^9"]),
+            ("seller ends", &["at its minimum", "1 below"]),
+            ("receiver ends", &["at its maximum", "1 above"]),
+            (
+                "listed account",
+                &[
+                    "from below 0",
+                    "from below its minimum",
+                    "still below its minimum",
+                    "with a BCQ of 0",
+                ],
+            ),
+            ("not listed, but would fit", &["not open", "seller"]),
+            (
+                "headroom of two listed",
+                &[
+                    "equal",
+                    "equal, larger MDDQ second",
+                    "1 apart, lower number first",
+                    "1 apart, lower number second",
+                    "larger bank first",
+                ],
             ),
         ],
     ),

@@ -19,6 +19,8 @@ mod hostile;
 mod ledgers;
 mod measuring;
 mod noise;
+mod partner_counts;
+mod partners;
 mod race;
 mod random;
 mod reached;
@@ -28,7 +30,7 @@ mod years;
 use std::process::ExitCode;
 
 const USAGE: &str =
-    "usage: referee compare [--seconds N] [--seed S] [--kind a|b|c|d|e|f]\n       referee race";
+    "usage: referee compare [--seconds N] [--seed S] [--kind a|b|c|d|e|f|g]\n       referee race";
 
 fn main() -> ExitCode {
     let words: Vec<String> = std::env::args().skip(1).collect();

@@ -25,10 +25,11 @@ pub enum Function {
     Place,
     Figures,
     Write,
+    Partners,
 }
 
 /// Functions, with the numbers that each can answer.
-const FUNCTIONS: [(&str, &[usize]); 7] = [
+const FUNCTIONS: [(&str, &[usize]); 8] = [
     ("entry_number", &[0, 1, 2, 3, 4, 5, 6, 7]),
     (
         "post",
@@ -41,6 +42,7 @@ const FUNCTIONS: [(&str, &[usize]); 7] = [
     ("place", &[0, 2, 3, 4, 5, 6, 7, 8, 9, 10, 13]),
     ("figures", &[0, 2, 3, 4, 5, 6, 7, 8, 9, 10]),
     ("write", &[0, 1, 2, 3, 4, 5, 6, 7, 11, 12]),
+    ("partners", &[0, 4, 6, 20, 21, 24]),
 ];
 
 /// The kind, and the months from 2000 to 2099, with one day each.
