@@ -208,6 +208,47 @@ static void limits(void)
     expect(nedrulov_band(4, 30000001).maximum == 0, "band of no BCQ", 0);
 }
 
+static bool lists(nedrulov_partner_list list, uint64_t number, uint64_t count, const uint64_t *accounts)
+{
+    bool same = list.number == number && list.count == count;
+    for (uint64_t i = 0; i < NEDRULOV_ACCOUNTS; i++)
+        same = same && list.accounts[i] == (i < count ? accounts[i] : 0);
+    return same;
+}
+
+/* R97 and R99: partners of the sample's suppliers after its last entry, and each TRANSFER that the list speaks of. */
+static void partners(nedrulov_ledger ledger)
+{
+    const uint64_t all[] = {2, 1, 3}, all_but_3[] = {2, 1}, by_number[] = {1, 2, 3}, none[] = {0};
+    expect(lists(nedrulov_partners(ledger, 0, 150000), 0, 3, all), "partners", 0);
+    expect(lists(nedrulov_partners(ledger, 0, 284611), 0, 3, all), "a partner that ends at its maximum", 0);
+    expect(lists(nedrulov_partners(ledger, 0, 284612), 0, 2, all_but_3), "a partner that would end above it", 0);
+    expect(lists(nedrulov_partners(ledger, 3, 496690), 0, 0, none), "a seller that would end below its minimum", 0);
+    expect(lists(nedrulov_partners(ledger, 16, 0), NEDRULOV_NO_ACCOUNT, 0, none), "partners of no account", 0);
+    expect(lists(nedrulov_partners(ledger, 0, 1000000001), NEDRULOV_WORD_RANGE, 0, none), "partners for too much", 0);
+    expect(lists(nedrulov_partners(ledger, 4, 1), NEDRULOV_WRONG_ACCOUNT, 0, none), "partners of one not open", 0);
+    expect(lists(nedrulov_partners(nedrulov_fresh(true), 0, 1), NEDRULOV_NOT_BEGUN, 0, none), "partners when fresh", 0);
+    for (uint8_t other = 0; other < NEDRULOV_ACCOUNTS; other++) {
+        /* 284,612 units, which is 0x0457C4, from account 0. */
+        uint8_t transfer[32] = {4, 0, other, 0, 0, 0, 0, 0, 0xC4, 0x57, 4, 0, 0xC4, 0x57, 4, 0};
+        transfer[4] = (uint8_t)(ledger.date.year % 256);
+        transfer[5] = (uint8_t)(ledger.date.year / 256);
+        transfer[6] = (uint8_t)ledger.date.month;
+        transfer[7] = (uint8_t)ledger.date.day;
+        bool accepted = nedrulov_post_by_value(ledger, transfer, 32).answer.number == 0;
+        expect(accepted == (other == 1 || other == 2), "a TRANSFER to a partner", other);
+    }
+    for (int account = 1; account < 4; account++) {
+        ledger.accounts[account].capacity.bcq = 1000;
+        ledger.accounts[account].bank = 0;
+    }
+    ledger.accounts[9] = ledger.accounts[1];
+    ledger.accounts[9].opened = false;
+    expect(lists(nedrulov_partners(ledger, 0, 1), 0, 3, by_number), "equal ones, and one that is not open", 0);
+    ledger.accounts[9].bank = -1000000001;
+    expect(lists(nedrulov_partners(ledger, 0, 1), NEDRULOV_LEDGER_RANGE, 0, none), "partners out of range", 0);
+}
+
 int main(int argc, char **argv)
 {
     static uint8_t archive[1 << 20];
@@ -236,6 +277,7 @@ int main(int argc, char **argv)
     }
     nedrulov_panel_answer shown = nedrulov_panel(lent.ledger);
     expect(shown.number == 0 && shown.figure == 6288886, "panel", 0);
+    partners(lent.ledger);
     lent.ledger.accounts[15].violation_days = 40001;
     shown = nedrulov_panel(lent.ledger);
     expect(shown.number == NEDRULOV_LEDGER_RANGE && shown.figure == 0, "panel out of range", 0);

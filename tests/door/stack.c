@@ -30,6 +30,7 @@ static void *closing(void *unused)
     return unused;
 }
 static void *panel(void *unused) { seen = nedrulov_panel(ledger).number; return unused; }
+static void *partners(void *unused) { seen = nedrulov_partners(ledger, 0, 1).number; return unused; }
 static void *check(void *unused) { seen = nedrulov_check(archive, length).number; return unused; }
 static void *place(void *unused) { seen = nedrulov_place(archive, length, 3).start; return unused; }
 static void *write(void *unused)
@@ -73,7 +74,7 @@ int main(int argc, char **argv)
     } calls[] = {
         {"fresh", fresh}, {"post", post}, {"post (closing)", closing}, {"post_by_value", by_value}, {"panel", panel},
         {"check", check}, {"place", place}, {"write", write}, {"figures", figures}, {"year_sheet", sheet},
-        {"back_cast", back_cast},
+        {"back_cast", back_cast}, {"partners", partners},
     };
     const size_t promised = 64 * 1024;
     if (argc != 2)
@@ -86,6 +87,10 @@ int main(int argc, char **argv)
     size_t bare = used(nothing);
     int over = 0;
     for (size_t i = 0; i < sizeof calls / sizeof calls[0]; i++) {
+        /* Sixteen open accounts, so that every one takes its place. */
+        if (calls[i].call == partners)
+            for (int account = 0; account < NEDRULOV_ACCOUNTS; account++)
+                ledger.accounts[account] = (nedrulov_account){.opened = true, .bank = 1, .step = {1, 1, 0, 0}, .capacity = {1, 1}};
         size_t bytes = used(calls[i].call) - bare;
         printf("stack: %-14s %6zu bytes\n", calls[i].name, bytes);
         if (bytes > promised)

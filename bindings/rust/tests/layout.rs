@@ -25,6 +25,7 @@ fn sizes() {
     assert_eq!(size_of::<Band>(), 16);
     assert_eq!(size_of::<LoadCurve>(), 24);
     assert_eq!(size_of::<BackCast>(), 16);
+    assert_eq!(size_of::<PartnerList>(), 144);
 }
 
 #[test]
@@ -50,4 +51,6 @@ fn offsets() {
     assert_eq!(offset_of!(LoadCurve, slope), 8);
     assert_eq!(offset_of!(LoadCurve, turning), 16);
     assert_eq!(offset_of!(BackCast, quantity), 8);
+    assert_eq!(offset_of!(PartnerList, count), 8);
+    assert_eq!(offset_of!(PartnerList, accounts), 16);
 }
