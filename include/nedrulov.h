@@ -15,7 +15,7 @@
  * are kinds 1 to 9 only. nedrulov_fresh, nedrulov_entry_number and nedrulov_write must be told which is meant, by is_new;
  * every other call sees it in what it is given: in the ledger's is_new, or in the archive's fourth byte, '1' or '2'.
  *
- * Size. All of the library takes 26 KB of read-only memory on x86-64. Its functions stand in sections of their own: linked with
+ * Size. All of the library takes 27 KB of read-only memory on x86-64. Its functions stand in sections of their own: linked with
  * -Wl,--gc-sections, a program carries those that it calls and what they need, 18 KB for nedrulov_post and nedrulov_panel.
  *
  * Measures. Gas that moves is in units, of which a Dth has a hundred; capacities (MDQ, MDDQ, BCQ) are in Dth, consumption
@@ -44,9 +44,9 @@ enum {
     NEDRULOV_WRONG_LENGTH = 1,      /* an entry has 32 bytes, a list a multiple of 32 */
     NEDRULOV_NO_KIND = 2,           /* kinds are 1 to 9, in a new ledger or archive 1 to 10 */
     NEDRULOV_NO_DATE = 3,           /* the calendar of 2000 to 2099 has no such day */
-    NEDRULOV_NO_ACCOUNT = 4,        /* a used account is above 15 */
+    NEDRULOV_NO_ACCOUNT = 4,        /* a used account is above 15, or the seller of a partner list */
     NEDRULOV_UNUSED_SET = 5,        /* something is set that the kind does not use */
-    NEDRULOV_WORD_RANGE = 6,        /* a word is too small or too large */
+    NEDRULOV_WORD_RANGE = 6,        /* a word is too small or too large, or the quantity of a partner list */
     NEDRULOV_WRONG_TRANSFER = 7,    /* TRANSFER of A to A, or w1 and w2 differ */
     /* of an archive */
     NEDRULOV_WRONG_HEADER = 8,      /* wrong size, opening or zeros, over 1,200 sections, or the directory is cut off */
@@ -60,7 +60,7 @@ enum {
     NEDRULOV_NOT_BEGUN = 21,        /* nothing but TERMS can begin a ledger */
     NEDRULOV_WRONG_DATE = 22,       /* the ledger stands at another day */
     NEDRULOV_WRONG_DAY = 23,        /* this kind is not for this day */
-    NEDRULOV_WRONG_ACCOUNT = 24,    /* already open for ENROL, or not open for another kind */
+    NEDRULOV_WRONG_ACCOUNT = 24,    /* already open for ENROL, or not open for another kind or as the seller of a partner list */
     NEDRULOV_STAYS_ON_FBS = 25,     /* the supplier is not served under EFBS */
     NEDRULOV_SECOND_TIME = 26,      /* DELIVER or CONFISCATED was posted today, or MEASURE or USAGE this month */
     NEDRULOV_INCOMPLETE = 27,       /* closing: DELIVER, MEASURE or USAGE is missing somewhere */

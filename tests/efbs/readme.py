@@ -27,6 +27,7 @@ def main():
     checks.that(run("panel", sample)[1].decode() == f"{panel[1]}\n", f"README's line of the panel, {panel[1]}")
     checks.that(counts.get("statement", 0) > 15, "README shows a statement")
     checks.that(counts.get("backcast", 0) > 4, "README shows back-casts")
+    checks.that(counts.get("partners", 0) > 5, "README shows partners")
     readings = re.search(r"`(--temperatures \S+)`", readme)[1].split()
     status, page, _ = run("backcast", "--base", "520", "--slope", "61.75", "--turning", "65", *readings)
     checks.that(status == 0 and len(page.split(b"\n")) > 10, "README's readings have their back-casts")

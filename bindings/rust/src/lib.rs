@@ -307,8 +307,8 @@ pub fn back_cast(curve: LoadCurve, temperature: f64) -> BackCast {
 }
 
 /// Every open account but the seller that could take the quantity, in units, on the ledger's day under the month's maximum,
-/// the most headroom first and the lower number among equals; none where the seller would fall below its minimum. 4, 6, 20,
-/// 21 or 24, with an empty list, as a TRANSFER would get them of the seller's side.
+/// the most headroom first and the lower number among equals; none where the seller would fall below its minimum. With an
+/// empty list: 4 if the seller is above 15, 6 if the quantity is not 1 to 10^9, then 20, 21, and 24 if the seller is not open.
 pub fn partners(ledger: Ledger, seller: u64, quantity: u64) -> PartnerList {
     unsafe { ffi::nedrulov_partners(ledger, seller, quantity) }
 }

@@ -6,4 +6,4 @@ use Rattle.partners.proofs.every_list.Statement.{statement}
 use Rattle.partners.proofs.every_list.Tie as tie
 
 pub every-list-spec : {M : Type 1} → statement M
-every-list-spec = tie.close (tie.spec (λ c. (every-list, (every-order, λ l xs ys m _ _ h k. only-one l (every-order l) xs ys m h k))))
+every-list-spec = tie.close (tie.spec (λ c. (every-list, (every-order, λ l. only-one l (every-order l)))))
