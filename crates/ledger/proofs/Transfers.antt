@@ -1,8 +1,8 @@
 -- A TRANSFER of the ledger's day is accepted exactly when each of its checks finds nothing wrong; 29 is never among them, as a bank within the band is
 -- within its range.
-use Prim.Native.Nat.{ℕ, _+_, _*_, _/_, _%_, _≤_, _<_}
+use Prim.Native.Nat.{ℕ, _+_, _*_, _/_, _%_, _<_}
 use mathlib.Core.Path.{_≡_, refl, sym, _∙_}
-use mathlib.Core.Bool.{Bool, true, false, cond, not, _&&_, _||_}
+use mathlib.Core.Bool.{Bool, true, false, cond, _&&_}
 use mathlib.Core.List.{List, [], _∷_, _++_}
 use native.Mathlib.Nat.{div-div-eq-div-mul}
 use native.Mathlib.Omega.{arith}
@@ -10,7 +10,7 @@ use lib.Dec.{eqb, leb}
 use lib.ListN.{length, replicate}
 use borrow.Author.Tests.{eqb-true, eqb-false, eq-eqb, ne-eqb, lt-leb, not-false}
 use Rattle.tariff.specs.Amounts.{less, more, within}
-use Rattle.tariff.specs.Dates.{real, sameDate}
+use Rattle.tariff.specs.Dates.{real}
 use Rattle.tariff.specs.Limits.{aboveMaximum, belowMinimum}
 use Rattle.tariff.proofs.Bands.{giver-stays, taker-stays}
 use Rattle.tariff.proofs.Bools.{and-left, and-right, parts}
@@ -27,7 +27,7 @@ use Rattle.ledger.specs.MarkedCases.{word}
 use Rattle.ledger.specs.Posting.{admission, postEntry, postKind, postSeveral, posted, standingChecks}
 use Rattle.ledger.specs.Ranges.{accountInRange, inRange}
 use Rattle.ledger.specs.State.{accountAt, withBank}
-use Rattle.ledger.specs.Structs.{Account, Date, Entry, Ledger, Quantity, Units}
+use Rattle.ledger.specs.Structs.{Account, Date, Entry, Ledger, Units}
 use Rattle.ledger.specs.Transfer.{giver, postTransfer, receiver, transferChecks}
 use Rattle.ledger.proofs.Admitted.{is-begun, is-ranged, is-right}
 use Rattle.ledger.proofs.Bounded.{account-ranged, begun-ranged, bounded}

@@ -1,8 +1,7 @@
 -- The number is that of the first check that finds something wrong, so each one passed leaves the next to decide.
 use Prim.Native.Nat.{ℕ, _≤_, _<_}
 use mathlib.Core.Path.{_≡_, refl, sym, _∙_}
-use mathlib.Core.Bool.{Bool, true, false, cond, not, _&&_}
-use mathlib.Core.List.{List, [], _∷_}
+use mathlib.Core.Bool.{true, cond, not, _&&_}
 use lib.Dec.{leb}
 use borrow.Author.Tests.{leb-false, leb-true, not-false}
 use Rattle.tariff.proofs.Bools.{and-left, and-right}

@@ -3,7 +3,6 @@ ghost use mathlib.Core.Path.{_≡_};
 ghost use mathlib.Core.List.{[], map};
 ghost use Rattle.partners.specs.Structs.{Partner};
 ghost use Rattle.partners.specs.Listing.{answer};
-use crate::order::Partner;
 use crate::places::Places;
 
 #[repr(C)]

@@ -1,19 +1,19 @@
 -- A giver that keeps the month's minimum does not fall below zero, and a taker that keeps the maximum does not rise far above it; so a bank in its
 -- range stays there.
 use Prim.Native.Nat.{ℕ, zero, suc, _+_, _*_, _-_, _≤_}
-use mathlib.Core.Path.{_≡_, refl, sym, _∙_}
-use mathlib.Core.Bool.{Bool, true, false, cond, _&&_, true≢false, false≢true}
+use mathlib.Core.Path.{_≡_, refl}
+use mathlib.Core.Bool.{Bool, true, false, cond, true≢false, false≢true}
 use native.Mathlib.Nat.{mul-le-mul}
 use native.Mathlib.Omega.{arith}
 use lib.Dec.{leb, ltb}
-use lib.IntN.{ℤ, pos, negsuc, negℤ, _+ℤ_, _-ℤ_, +ℤ-idr}
-use lib.Signed.{ltZ, leZ}
-use borrow.Author.Tests.{leb-true, le-leb, ltb-true, ltb-false}
+use lib.IntN.{ℤ, pos, negsuc, _+ℤ_, _-ℤ_}
+use lib.Signed.{ltZ}
+use borrow.Author.Tests.{leb-true, le-leb, ltb-false}
 use Rattle.tariff.specs.Amounts.{above, below, less, more, percent, positivePart, within}
 use Rattle.tariff.specs.Limits.{aboveMaximum, belowMinimum}
 use Rattle.tariff.specs.Months.{maximum, minimum}
 use Rattle.tariff.specs.Structs.{Dth, Month, Quantity, Units}
-use Rattle.tariff.proofs.Bools.{and-left, and-right}
+use Rattle.tariff.proofs.Bools.{and-left}
 use Rattle.tariff.proofs.Forfeits.{Between, left-between, not-below}
 use Rattle.tariff.proofs.Percentages.{maximum-le}
 

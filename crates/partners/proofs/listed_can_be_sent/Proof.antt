@@ -1,21 +1,16 @@
 -- Both ask the same: what a TRANSFER of the day is asked is what list and number ask of seller, quantity and the other account.
-use Prim.Native.Nat.{ℕ, _≤_, _<_}
+use Prim.Native.Nat.{ℕ}
 use mathlib.Core.Path.{_≡_, refl, sym, _∙_}
-use mathlib.Core.Bool.{Bool, true, false, cond, not, _&&_, true≢false}
+use mathlib.Core.Bool.{Bool, true, false, cond, _&&_}
 use mathlib.Core.List.{[]}
-use native.Mathlib.Omega.{arith}
 use lib.Dec.{eqb, leb, ltb}
-use lib.ListN.{length}
-use borrow.Author.Tests.{eq-eqb, eqb-false, eqb-true, lt-leb, lt-ltb, ltb-true, ne-eqb, not-false, not-true}
-use Rattle.tariff.specs.Amounts.{less, more}
-use Rattle.tariff.specs.Limits.{aboveMaximum, belowMinimum}
-use Rattle.tariff.proofs.Bools.{and-left, and-right, parts}
+use borrow.Author.Tests.{eq-eqb, eqb-false, eqb-true, lt-leb, lt-ltb, ltb-true, ne-eqb, not-true}
+use Rattle.tariff.proofs.Bools.{parts}
 use Rattle.ledger.specs.Checks.{verdict}
 use Rattle.ledger.specs.Posting.{posted}
-use Rattle.ledger.specs.State.{accountAt}
 use Rattle.ledger.proofs.Fields.{units-between}
 use Rattle.ledger.proofs.Transfers.{Transferable, accepted-if, accepted-only-if}
-use Rattle.partners.specs.EveryList.{inOrder, isIn, listed, times}
+use Rattle.partners.specs.EveryList.{isIn, listed, times}
 use Rattle.partners.specs.Listing.{answer, partnerChecks, partnersBelow, partnersOf}
 use Rattle.partners.specs.Receivers.{couldReceive, spares, takes}
 use Rattle.partners.specs.Structs.{Ledger}

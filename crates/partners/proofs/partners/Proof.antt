@@ -1,7 +1,7 @@
 -- A number comes with nobody; without one, what the list's search asks for was just found to hold.
 use Prim.Native.Nat.{ℕ}
 use mathlib.Core.Path.{_≡_, sym, _∙_}
-use mathlib.Core.List.{List, [], map}
+use mathlib.Core.List.{List, []}
 use borrow.Author.Needs.{needs}
 use borrow.Author.Tests.{eq-eqb, ne-eqb}
 use lib.ListN.{length}

@@ -1,5 +1,4 @@
 -- Sixteen zeros are what is left of sixteen places when nobody takes one.
-use mathlib.Core.Path.{refl}
 use borrow.Author.Needs.{needs}
 use Rattle.partners.specs.Listing.{answer}
 use Rattle.partners.proofs.answers.nobody.Statement.{statement}
