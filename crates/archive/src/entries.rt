@@ -4,7 +4,7 @@ ghost use Rattle.archive.specs.Entries.{closesMonth};
 ghost use Rattle.archive.specs.Writing.{listChecked};
 
 #[repr(C)]
-#[derive(Drop)]
+#[derive(Clone, Copy)]
 pub struct Checked {
     pub number: u64,
     // Of the entry that the number is about, counted over the whole list or file; 0 where it is about none.

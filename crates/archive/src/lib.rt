@@ -1,4 +1,6 @@
 // The archive: what is opened in thirty years.
+#![tactic(auto)]
+
 mod entries;
 mod opening;
 mod reading;

@@ -11,7 +11,7 @@ use crate::words::{half, word};
 
 // Where a section lies in its archive.
 #[repr(C)]
-#[derive(Drop)]
+#[derive(Clone, Copy)]
 pub struct Place {
     pub number: u64,
     pub index: usize,

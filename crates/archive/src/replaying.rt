@@ -9,7 +9,7 @@ use crate::entries::Checked;
 use ledger::Ledger;
 use tariff::amounts::Units;
 
-#[derive(Drop)]
+#[derive(Clone, Copy)]
 pub struct Replay {
     // Of the archive; with a refusal the counts are 0 and the ledger is fresh.
     pub number: u64,
@@ -21,7 +21,7 @@ pub struct Replay {
 
 // What the panel program prints.
 #[repr(C)]
-#[derive(Drop)]
+#[derive(Clone, Copy)]
 pub struct Figures {
     pub number: u64,
     pub index: usize,

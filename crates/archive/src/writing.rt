@@ -11,7 +11,7 @@ use crate::sections::{MOST_BYTES, MOST_SECTIONS, count_sections, first_section};
 use crate::words::put_word;
 
 #[repr(C)]
-#[derive(Drop)]
+#[derive(Clone, Copy)]
 pub struct Written {
     pub number: u64,
     pub index: usize,

@@ -6,7 +6,7 @@ use tariff::amounts::Quantity;
 
 // The number, and the back-cast in units; a refusal has none.
 #[repr(C)]
-#[derive(Drop)]
+#[derive(Clone, Copy)]
 pub struct BackCast {
     pub number: u64,
     pub quantity: Quantity,

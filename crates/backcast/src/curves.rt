@@ -6,7 +6,7 @@ use crate::doubles::is_number;
 
 // Units of gas at the turning temperature and above it, units more for each degree below, and that temperature.
 #[repr(C)]
-#[derive(Drop)]
+#[derive(Clone, Copy)]
 pub struct LoadCurve {
     pub base: f64,
     pub slope: f64,

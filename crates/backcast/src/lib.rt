@@ -1,4 +1,6 @@
 // A day's back-cast, worked out from its temperature. It needs no ledger.
+#![tactic(auto)]
+
 mod answers;
 mod curves;
 mod doubles;

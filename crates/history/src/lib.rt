@@ -1,4 +1,6 @@
 // R61 to R65: whatever list of postings a fresh ledger gets, old or new, anyone can add up what it holds at the end.
+#![tactic(auto)]
+
 ghost use Rattle.history.specs.History.{BanksAddUp, PanelAddsUp, DebtsAddUp, DaysAddUp, StrikingChangesNothing, OnlyClosingsCount};
 
 // For every list of postings to an old fresh ledger and to a new one: specs/History.antt has each claim in words.

@@ -7,7 +7,7 @@ use tariff::amounts::{Mills, Quantity, Units};
 
 // Of one account, from an accepted closing.
 #[repr(C)]
-#[derive(Drop)]
+#[derive(Clone, Copy)]
 pub struct Report {
     // V1 is 1, V2 is 2, up to V8 128.
     pub mask: u64,
@@ -18,7 +18,7 @@ pub struct Report {
 }
 
 #[repr(C)]
-#[derive(Drop)]
+#[derive(Clone, Copy)]
 pub struct Answer {
     // 0 is acceptance.
     pub number: u64,
@@ -26,7 +26,7 @@ pub struct Answer {
 }
 
 #[repr(C)]
-#[derive(Drop)]
+#[derive(Clone, Copy)]
 pub struct Posted {
     pub answer: Answer,
     pub ledger: Ledger,

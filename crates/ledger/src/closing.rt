@@ -25,7 +25,7 @@ use tariff::steps::Step;
 use tariff::terms::{Capacity, Terms};
 
 // An account at a closing: after the day's part, at the end, and what is reported of it.
-#[derive(Drop)]
+#[derive(Clone, Copy)]
 pub struct Closed {
     pub day: Account,
     pub account: Account,

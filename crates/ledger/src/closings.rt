@@ -18,7 +18,7 @@ use crate::state::Ledger;
 use tariff::holidays::Holidays;
 
 // All accounts at a closing, whether they had what it asks for, and whether every number stays in its range.
-#[derive(Drop)]
+#[derive(Clone, Copy)]
 struct Closings {
     ledger: Ledger,
     reports: [Report; 16],

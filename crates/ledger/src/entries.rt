@@ -8,7 +8,7 @@ use tariff::dates::Date;
 use tariff::months::Month;
 use tariff::terms::Terms;
 
-#[derive(Drop)]
+#[derive(Clone, Copy)]
 pub struct Entry {
     pub kind: u64,
     pub a: usize,

@@ -26,7 +26,7 @@ pub const HOLIDAY: u64 = 11;
 
 const NEVER: u64 = 255;
 
-#[derive(Drop)]
+#[derive(Clone, Copy)]
 pub struct Kind {
     // How many accounts it names: none, A, or A and B. The rules of a kind that names one see that account only.
     pub accounts: u64,

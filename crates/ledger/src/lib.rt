@@ -1,4 +1,6 @@
 // The bank ledger: postings of eleven kinds, and the panel.
+#![tactic(auto)]
+
 mod answers;
 mod changes;
 mod checks;

@@ -8,7 +8,7 @@ use crate::state::{Account, Ledger};
 use tariff::amounts::Units;
 
 #[repr(C)]
-#[derive(Drop)]
+#[derive(Clone, Copy)]
 pub struct Panel {
     pub number: u64,
     pub figure: Units,

@@ -11,7 +11,7 @@ use tariff::terms::{Capacity, Terms};
 
 // What every closing clears.
 #[repr(C)]
-#[derive(Drop)]
+#[derive(Clone, Copy)]
 pub struct Today {
     // DELIVER was accepted.
     pub delivered: bool,
@@ -25,7 +25,7 @@ pub struct Today {
 
 // What CLOSE MONTH clears.
 #[repr(C)]
-#[derive(Drop)]
+#[derive(Clone, Copy)]
 pub struct ThisMonth {
     pub totals: Totals,
     // MEASURE and USAGE were accepted.
@@ -34,7 +34,7 @@ pub struct ThisMonth {
 }
 
 #[repr(C)]
-#[derive(Drop)]
+#[derive(Clone, Copy)]
 pub struct Account {
     pub opened: bool,
     // A fall of the step excuses a bank above its limit until it fits again.
@@ -51,7 +51,7 @@ pub struct Account {
 }
 
 #[repr(C)]
-#[derive(Drop)]
+#[derive(Clone, Copy)]
 pub struct Ledger {
     pub begun: bool,
     // Something was accepted today.

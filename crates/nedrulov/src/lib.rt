@@ -1,5 +1,7 @@
 // The door for firmware: what a C or Rust program links. Every function answers every input, keeps no state,
 // and writes only to what the caller lends it.
+#![tactic(auto)]
+
 mod cells;
 
 ghost use Rattle.std.specs.Prelude.{◌≡◌, cond, ltb, length};
@@ -30,7 +32,7 @@ use tariff::months::Month;
 
 // The least and the largest bank of a month, in units.
 #[repr(C)]
-#[derive(Drop)]
+#[derive(Clone, Copy)]
 pub struct Band {
     pub minimum: u64,
     pub maximum: u64,

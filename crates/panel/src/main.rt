@@ -1,5 +1,7 @@
 // R81: standard input is an archive, 65,536 bytes long at most, and one line says what the panel shows of it:
 // accepted and refused postings and the figure, or what is wrong with the archive and where.
+#![tactic(auto)]
+
 use archive::Figures;
 use libc::STDIN_FILENO;
 use printing::{number, text, units};

@@ -6,7 +6,7 @@ ghost use Rattle.partners.specs.Listing.{answer};
 use crate::places::Places;
 
 #[repr(C)]
-#[derive(Drop)]
+#[derive(Clone, Copy)]
 pub struct PartnerList {
     pub number: u64,
     pub count: u64,

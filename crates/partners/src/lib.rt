@@ -1,4 +1,6 @@
 // Who can take a supplier's gas: the accounts that could receive it today, in order.
+#![tactic(auto)]
+
 mod answers;
 mod finding;
 mod order;

@@ -1,6 +1,8 @@
 // Posts a list from standard input and prints every answer, then the banks, what is owed, the violation days, the date and the panel.
 // The input is a sequence of records: 'P', a length byte and that many bytes are a posting; 'K', an account, a field and a signed
 // number of 8 bytes, little-endian, overwrite one number of the ledger, as a hostile caller might.
+#![tactic(auto)]
+
 ghost use Rattle.std.specs.Prelude.{◌+◌, ◌<◌, ◌≤◌, length};
 
 use ledger::{Account, Answer, Ledger, Report};
@@ -237,7 +239,7 @@ fn four(bytes: &[u8], at: usize) -> u64
 }
 
 // Where the next record begins, and the ledger then.
-#[derive(Drop)]
+#[derive(Clone, Copy)]
 struct Place {
     at: usize,
     ledger: Ledger,

@@ -1,4 +1,6 @@
 // Words and figures on standard output, for the programs.
+#![tactic(auto)]
+
 use libc::STDOUT_FILENO;
 use tariff::amounts::{Mills, Units};
 

@@ -1,5 +1,7 @@
 // Published rates and further cases of the tariff's arithmetic. The file stdout beside src/ holds the results, worked out by hand
 // from the company's sheets and the rules.
+#![tactic(auto)]
+
 ghost use Rattle.std.specs.Prelude.{◌≡◌, true, ◌≤◌};
 ghost use Rattle.tariff.specs.Dates.{real};
 

@@ -1,5 +1,7 @@
 // R79: the year sheets of 2025, 2026 and 2027, a row for each account, of the archive on standard input,
 // which may be up to 65,536 bytes long.
+#![tactic(auto)]
+
 use libc::STDIN_FILENO;
 use printing::{text, units};
 use tariff::amounts::Units;

@@ -6,7 +6,7 @@ use crate::choice::choose;
 use crate::months::Month;
 
 #[repr(C)]
-#[derive(Drop)]
+#[derive(Clone, Copy)]
 pub struct Date {
     pub year: u64,
     pub month: Month,

@@ -9,7 +9,7 @@ use crate::months::Month;
 
 // The first `count` places are taken, in the order of posting.
 #[repr(C)]
-#[derive(Drop)]
+#[derive(Clone, Copy)]
 pub struct Holidays {
     pub count: u64,
     pub dates: [Date; 16],

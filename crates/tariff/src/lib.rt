@@ -1,4 +1,6 @@
 // Rider EFBS's arithmetic. Every function is proved equal to a definition in specs/, and the layers above know it by that alone.
+#![tactic(auto)]
+
 pub mod amounts;
 pub mod bill;
 pub mod bounds;

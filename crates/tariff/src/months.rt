@@ -4,7 +4,7 @@ ghost use Rattle.tariff.specs.Months.{sameMonth, gasMonth, winter, minimum, maxi
 
 // By its number in the calendar year. Other numbers than 1 to 12 are no date's month.
 #[repr(C)]
-#[derive(Drop)]
+#[derive(Clone, Copy)]
 pub struct Month(pub u64);
 
 // Percentages are bytes, as the compiler writes a table out wherever it is used.

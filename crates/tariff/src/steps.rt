@@ -7,7 +7,7 @@ use crate::amounts::Dth;
 use crate::choice::{choose, larger};
 
 #[repr(C)]
-#[derive(Drop)]
+#[derive(Clone, Copy)]
 pub struct Step {
     pub k: u64,
     // Becomes k at the month's end.

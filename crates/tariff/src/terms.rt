@@ -7,7 +7,7 @@ use crate::amounts::Dth;
 use crate::bounds::{MOST_DESIGN_DAY, MOST_NO_NOTICE, MOST_RATE, MOST_RETAINAGE};
 
 #[repr(C)]
-#[derive(Drop)]
+#[derive(Clone, Copy)]
 pub struct Terms {
     // NN, the company's daily no-notice quantity.
     pub no_notice: Dth,
@@ -24,7 +24,7 @@ pub struct Terms {
 }
 
 #[repr(C)]
-#[derive(Drop)]
+#[derive(Clone, Copy)]
 pub struct Capacity {
     pub mddq: Dth,
     pub bcq: Dth,

@@ -5,4 +5,4 @@ use Rattle.tariff.proofs.dates.leap.Statement.{statement}
 use Rattle.tariff.proofs.dates.leap.Tie as tie
 
 pub leap-spec : {M : Type 1} → statement M
-leap-spec = tie.close (tie.spec (λ c. let s : tie.Start = search in sym (every-fourth s.args.year s.pre.0 s.pre.1)))
+leap-spec = tie.close (tie.spec (λ c. let s : tie.Start = search in sym (every-fourth s.args.year s.requires.0 s.requires.1)))

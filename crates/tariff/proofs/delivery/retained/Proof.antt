@@ -15,13 +15,13 @@ returns : tie.Need-returns
 unfolding retained
 returns c =
     let s : tie.Start = search in
-    rw (quotient-read s.args.delivered.0 s.args.back-cast.0 (10000 - s.args.retainage) s.pre.1 s.pre.2 (omega arith))
-    (refl, retained-le s.args.retainage s.args.delivered s.args.back-cast s.pre.1 s.pre.2)
+    rw (quotient-read s.args.delivered.0 s.args.back_cast.0 (10000 - s.args.retainage) s.requires.1 s.requires.2 (omega arith))
+    (refl, retained-le s.args.retainage s.args.delivered s.args.back_cast s.requires.1 s.requires.2)
 
 pub retained-spec : {M : Type 1} → statement M
 retained-spec =
     tie.close
     (tie.spec
     (search rules) (search rules) (search rules) (search rules)
-    (λ c. let s : tie.Start = search in difference-fits (pos s.args.delivered.0) (pos s.args.back-cast.0) (omega arith))
+    (λ c. let s : tie.Start = search in difference-fits (pos s.args.delivered.0) (pos s.args.back_cast.0) (omega arith))
     (λ c. search (product-fits, sub-le)) (λ c. (search rules, search (quotient_fits, sub-le))) returns)

@@ -8,4 +8,4 @@ pub followed-by-spec : {M : Type 1} → statement M
 followed-by-spec =
     tie.close
     (tie.spec (search rules) (search rules) (search rules)
-    (λ c hs e. let s : tie.Start = search in stored_next s.args.self s.args.d hs s.pre e))
+    (λ c hs e. let s : tie.Start = search in stored_next s.args.self s.args.d hs s.requires e))

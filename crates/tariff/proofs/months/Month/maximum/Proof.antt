@@ -9,7 +9,7 @@ use Rattle.tariff.proofs.months.Month.maximum.Tie as tie
 
 returns : tie.Need-returns
 unfolding maximum
-returns c = and-bound (λ share. share ≤ 102) c.percent-in.ensures (search maximum-le)
+returns c = and-bound (λ share. share ≤ 102) c.percent_in.ensures (search maximum-le)
 
 pub maximum-spec : {M : Type 1} → statement M
 maximum-spec = tie.close (tie.spec (search rules) returns)

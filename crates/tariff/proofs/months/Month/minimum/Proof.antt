@@ -9,7 +9,7 @@ use Rattle.tariff.proofs.months.Month.minimum.Tie as tie
 
 returns : tie.Need-returns
 unfolding minimum
-returns c = and-bound (λ share. share ≤ 102) c.percent-in.ensures (search minimum-le)
+returns c = and-bound (λ share. share ≤ 102) c.percent_in.ensures (search minimum-le)
 
 pub minimum-spec : {M : Type 1} → statement M
 minimum-spec = tie.close (tie.spec (search rules) returns)

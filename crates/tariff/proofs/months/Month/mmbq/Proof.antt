@@ -9,7 +9,7 @@ use Rattle.tariff.proofs.months.Month.mmbq.Tie as tie
 
 returns : tie.Need-returns
 unfolding mmbq
-returns c = and-bound (λ share. share ≤ 102) c.percent-in.ensures (search mmbq-le)
+returns c = and-bound (λ share. share ≤ 102) c.percent_in.ensures (search mmbq-le)
 
 pub mmbq-spec : {M : Type 1} → statement M
 mmbq-spec = tie.close (tie.spec (search rules) returns)

@@ -6,4 +6,4 @@ use Rattle.tariff.proofs.months.Month.winter.Tie as tie
 
 pub winter-spec : {M : Type 1} → statement M
 unfolding winter
-winter-spec = tie.close (tie.spec (search rules) (λ c. let at : tie.After-gas-month = search in rw at.gas-month.ensures.0))
+winter-spec = tie.close (tie.spec (search rules) (λ c. let at : tie.After-gas_month = search in rw at.gas-month.ensures.0))

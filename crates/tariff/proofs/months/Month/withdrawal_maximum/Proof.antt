@@ -9,7 +9,7 @@ use Rattle.tariff.proofs.months.Month.withdrawal_maximum.Tie as tie
 
 returns : tie.Need-returns
 unfolding withdrawalMaximum
-returns c = and-bound (λ share. share ≤ 102) c.percent-in.ensures (search withdrawal-maximum-le)
+returns c = and-bound (λ share. share ≤ 102) c.percent_in.ensures (search withdrawal-maximum-le)
 
 pub withdrawal-maximum-spec : {M : Type 1} → statement M
 withdrawal-maximum-spec = tie.close (tie.spec (search rules) returns)

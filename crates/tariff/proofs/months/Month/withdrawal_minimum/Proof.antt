@@ -9,7 +9,7 @@ use Rattle.tariff.proofs.months.Month.withdrawal_minimum.Tie as tie
 
 returns : tie.Need-returns
 unfolding withdrawalMinimum
-returns c = and-bound (λ share. share ≤ 102) c.percent-in.ensures (search withdrawal-minimum-le)
+returns c = and-bound (λ share. share ≤ 102) c.percent_in.ensures (search withdrawal-minimum-le)
 
 pub withdrawal-minimum-spec : {M : Type 1} → statement M
 withdrawal-minimum-spec = tie.close (tie.spec (search rules) returns)

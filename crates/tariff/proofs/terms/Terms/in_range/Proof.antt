@@ -19,7 +19,7 @@ returns : tie.Need-returns
 unfolding termsInRange
 returns c = let s : tie.Start = search in let out : fits s.args.self ≡ false = search not-true in rw out
 
-mul-stored : tie.Need-overflow-mul-stored
+mul-stored : tie.Need-overflow_mul-stored
 mul-stored c = let s : tie.Start = search in let bound : s.args.self.no_notice.0 ≤ 10000000 = search (parts, leb-true, not-false) in omega arith
 
 returns-2 : tie.Need-returns-2
