@@ -34,5 +34,5 @@ all-nine =
 returns : tie.Need-returns
 returns c = all-nine
 
-pub marked-cases-spec : {M : Type 1} → statement M
-marked-cases-spec = tie.close (tie.spec returns)
+pub marked_cases_spec : {M : Type 1} → statement M
+marked_cases_spec = tie.close (tie.spec returns)

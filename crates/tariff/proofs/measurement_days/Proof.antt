@@ -3,5 +3,5 @@ use Rattle.tariff.proofs.BusinessDays.{every-month, finds-first, moves-on, only_
 use Rattle.tariff.proofs.measurement_days.Statement.{statement}
 use Rattle.tariff.proofs.measurement_days.Tie as tie
 
-pub measurement-days-spec : {M : Type 1} → statement M
-measurement-days-spec = tie.close (tie.spec (λ c. (finds-first, (only_one, (every-month, (plain-without-holidays, moves-on))))))
+pub measurement_days_spec : {M : Type 1} → statement M
+measurement_days_spec = tie.close (tie.spec (λ c. (finds-first, (only_one, (every-month, (plain-without-holidays, moves-on))))))

@@ -3,5 +3,5 @@ use Rattle.tariff.proofs.NextDays.{right-days}
 use Rattle.tariff.proofs.right_days.Statement.{statement}
 use Rattle.tariff.proofs.right_days.Tie as tie
 
-pub right-days-spec : {M : Type 1} → statement M
-right-days-spec = tie.close (tie.spec (λ c. right-days))
+pub right_days_spec : {M : Type 1} → statement M
+right_days_spec = tie.close (tie.spec (λ c. right-days))

@@ -8,5 +8,5 @@ use Rattle.tariff.proofs.closing.bit.Tie as tie
 returns : tie.Need-returns
 returns c = let s : tie.Start = search in and-bound (λ bit. bit ≤ s.args.value) (search) (search (rules, choice-le))
 
-pub bit-spec : {M : Type 1} → statement M
-bit-spec = tie.close (tie.spec (search rules) returns)
+pub bit_spec : {M : Type 1} → statement M
+bit_spec = tie.close (tie.spec (search rules) returns)

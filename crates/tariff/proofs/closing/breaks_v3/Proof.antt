@@ -12,5 +12,5 @@ answer : (m bcq net p most broken : _) → p ≡ mmbq m → most ≡ percent p b
 unfolding breaksV3
 answer m bcq net p most broken e₁ e₂ e₃ = cc
 
-pub breaks-v3-spec : {M : Type 1} → statement M
-breaks-v3-spec = tie.close (tie.spec (search rules) (search rules) (search rules) (λ c. search answer))
+pub breaks_v3_spec : {M : Type 1} → statement M
+breaks_v3_spec = tie.close (tie.spec (search rules) (search rules) (search rules) (λ c. search answer))

@@ -13,5 +13,5 @@ answer : (m limit net cold out beyond : _) → cold ≡ winter m → out ≡ opp
 unfolding breaksV4
 answer m limit net cold out beyond e₁ e₂ e₃ = cc
 
-pub breaks-v4-spec : {M : Type 1} → statement M
-breaks-v4-spec = tie.close (tie.spec (search rules) (search rules) (search rules) (λ c. search answer))
+pub breaks_v4_spec : {M : Type 1} → statement M
+breaks_v4_spec = tie.close (tie.spec (search rules) (search rules) (search rules) (λ c. search answer))

@@ -17,9 +17,9 @@ answer : (d bcq net ends second third p least out low : _) → ends ≡ lastOfMo
 unfolding breaksV5
 answer d bcq net ends second third p least out low e₁ e₂ e₃ e₄ e₅ e₆ e₇ = cc
 
-pub breaks-v5-spec : {M : Type 1} → statement M
+pub breaks_v5_spec : {M : Type 1} → statement M
 unfolding february march
-breaks-v5-spec =
+breaks_v5_spec =
     tie.close
     (tie.spec
     (λ c κs. search rules) (search rules) (search rules) (search rules) (search rules) (search rules) (search rules)

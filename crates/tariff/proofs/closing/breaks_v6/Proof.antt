@@ -16,6 +16,6 @@ answer : (d bcq bank day first high day' second high' : _) → day ≡ isOn june
 unfolding breaksV6
 answer d bcq bank day first high day' second high' e₁ e₂ e₃ e₄ e₅ e₆ = cc
 
-pub breaks-v6-spec : {M : Type 1} → statement M
+pub breaks_v6_spec : {M : Type 1} → statement M
 unfolding june august
-breaks-v6-spec = tie.close (tie.spec (search rules) (search rules) (search rules) (search rules) (search rules) (search rules) (λ c. search answer))
+breaks_v6_spec = tie.close (tie.spec (search rules) (search rules) (search rules) (search rules) (search rules) (search rules) (λ c. search answer))

@@ -4,6 +4,6 @@ use Rattle.tariff.specs.Closing.{breaksV7}
 use Rattle.tariff.proofs.closing.breaks_v7.Statement.{statement}
 use Rattle.tariff.proofs.closing.breaks_v7.Tie as tie
 
-pub breaks-v7-spec : {M : Type 1} → statement M
+pub breaks_v7_spec : {M : Type 1} → statement M
 unfolding breaksV7
-breaks-v7-spec = tie.close (tie.spec (search rules) (λ c. search rules))
+breaks_v7_spec = tie.close (tie.spec (search rules) (λ c. search rules))

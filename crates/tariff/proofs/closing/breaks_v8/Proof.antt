@@ -12,5 +12,5 @@ answer : (excused bcq bank most high : _) → most ≡ percent 102 bcq → high 
 unfolding breaksV8
 answer excused bcq bank most high e₁ e₂ = cc
 
-pub breaks-v8-spec : {M : Type 1} → statement M
-breaks-v8-spec = tie.close (tie.spec (search rules) (search rules) (λ c. search answer))
+pub breaks_v8_spec : {M : Type 1} → statement M
+breaks_v8_spec = tie.close (tie.spec (search rules) (search rules) (λ c. search answer))

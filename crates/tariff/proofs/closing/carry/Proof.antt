@@ -21,5 +21,5 @@ returns : tie.Need-returns
 unfolding march
 returns c = let s : tie.Start = search in and-bound (λ carried. carried.0 ≤ size s.args.net) (search answer) (search carry-le)
 
-pub carry-spec : {M : Type 1} → statement M
-carry-spec = tie.close (tie.spec (search rules) (search rules) (search rules) (search rules) (search rules) returns)
+pub carry_spec : {M : Type 1} → statement M
+carry_spec = tie.close (tie.spec (search rules) (search rules) (search rules) (search rules) (search rules) returns)

@@ -27,8 +27,8 @@ unmoved : (m : Month) (excused : Bool) (bcq : Dth) (bank r : Units) (low high : 
 unfolding cashOf
 unmoved m excused bcq bank r low high l f h k n = cc
 
-pub cash-spec : {M : Type 1} → statement M
-cash-spec =
+pub cash_spec : {M : Type 1} → statement M
+cash_spec =
     tie.close
     (tie.spec
     (search rules)

@@ -13,5 +13,5 @@ answer : (m bcq bank p most high : _) → p ≡ maximum m → most ≡ percent p
 unfolding endsExcuse
 answer m bcq bank p most high e₁ e₂ e₃ = cc
 
-pub ends-excuse-spec : {M : Type 1} → statement M
-ends-excuse-spec = tie.close (tie.spec (search rules) (search rules) (search rules) (λ c. search answer))
+pub ends_excuse_spec : {M : Type 1} → statement M
+ends_excuse_spec = tie.close (tie.spec (search rules) (search rules) (search rules) (λ c. search answer))

@@ -17,5 +17,5 @@ answer a q rest left e₁ e₂ = cc
 returns : tie.Need-returns
 returns c = let s : tie.Start = search in and-bound (λ left. left.0 ≤ size s.args.a) (search answer) (search excess-le)
 
-pub excess-spec : {M : Type 1} → statement M
-excess-spec = tie.close (tie.spec (search rules) (search rules) returns)
+pub excess_spec : {M : Type 1} → statement M
+excess_spec = tie.close (tie.spec (search rules) (search rules) returns)

@@ -22,8 +22,8 @@ returns : tie.Need-returns
 unfolding january march
 returns c = let s : tie.Start = search in and-bound (λ taken. taken.0 ≤ size s.args.bank) (search answer) (search forfeit-le)
 
-pub forfeit-spec : {M : Type 1} → statement M
-forfeit-spec =
+pub forfeit_spec : {M : Type 1} → statement M
+forfeit_spec =
     tie.close
     (tie.spec
     (search rules) (search rules) (search rules) (search rules) (search rules) (search rules) (search rules) (search rules)

@@ -18,5 +18,5 @@ answer new confiscated excess less taken p q = cc
 returns : tie.Need-returns
 returns c = let s : tie.Start = search in and-bound (λ taken. taken.0 ≤ s.args.excess.0) (search answer) (search part-le)
 
-pub forfeit-under-spec : {M : Type 1} → statement M
-forfeit-under-spec = tie.close (tie.spec (search rules) (search rules) returns)
+pub forfeit_under_spec : {M : Type 1} → statement M
+forfeit_under_spec = tie.close (tie.spec (search rules) (search rules) returns)

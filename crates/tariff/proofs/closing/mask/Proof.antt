@@ -15,8 +15,8 @@ answer : (b1 b2 b3 b4 b5 b6 b7 b8 : ℕ) (v1 v2 v3 v4 v5 v6 v7 v8 : _) → b1 �
 unfolding mask_of
 answer b1 b2 b3 b4 b5 b6 b7 b8 v1 v2 v3 v4 v5 v6 v7 v8 e₁ e₂ e₃ e₄ e₅ e₆ e₇ e₈ = cc
 
-pub mask-spec : {M : Type 1} → statement M
-mask-spec =
+pub mask_spec : {M : Type 1} → statement M
+mask_spec =
     tie.close
     (tie.spec
     (search rules) (search rules) (search rules) (search rules) (search rules) (search rules) (search rules) (search rules)

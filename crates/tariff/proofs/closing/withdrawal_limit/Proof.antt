@@ -17,8 +17,8 @@ answer : (carry : Quantity) (m bcq p most n : _) → p ≡ withdrawalMaximum m �
 unfolding withdrawalLimit
 answer carry m bcq p most n e₁ e₂ e₃ = let stops : n - carry.0 ≡ most.0 - carry.0 = omega arith in cc
 
-pub withdrawal-limit-spec : {M : Type 1} → statement M
-withdrawal-limit-spec =
+pub withdrawal_limit_spec : {M : Type 1} → statement M
+withdrawal_limit_spec =
     tie.close
     (tie.spec
     (search rules) (search rules) (search rules) (search rules)

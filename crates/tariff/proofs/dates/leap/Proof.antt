@@ -4,5 +4,5 @@ use Rattle.tariff.proofs.Calendar.{every-fourth}
 use Rattle.tariff.proofs.dates.leap.Statement.{statement}
 use Rattle.tariff.proofs.dates.leap.Tie as tie
 
-pub leap-spec : {M : Type 1} → statement M
-leap-spec = tie.close (tie.spec (λ c. let s : tie.Start = search in sym (every-fourth s.args.year s.requires.0 s.requires.1)))
+pub leap_spec : {M : Type 1} → statement M
+leap_spec = tie.close (tie.spec (λ c. let s : tie.Start = search in sym (every-fourth s.args.year s.requires.0 s.requires.1)))

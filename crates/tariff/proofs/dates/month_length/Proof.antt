@@ -31,7 +31,7 @@ module _ (year : ℕ) (m : Month) where
       go true e = e₂ ∙ its_own long e₁ (eqb-true m.0 2 e)
       go false e = by-turns l h (eqb-false m.0 2 e)
 
-pub month-length-spec : {M : Type 1} → statement M
-month-length-spec =
+pub month_length_spec : {M : Type 1} → statement M
+month_length_spec =
     tie.close
     (tie.spec (search rules) (search rules) (search rules) (search rules) (search rules) (λ c. search answer))

@@ -22,5 +22,5 @@ answer : (m bcq amount p most injected days : _) → p ≡ mmbq m → most ≡ p
 unfolding breaksV1
 answer m bcq amount p most injected days e₁ e₂ e₃ e₄ = cc
 
-pub breaks-v1-spec : {M : Type 1} → statement M
-breaks-v1-spec = tie.close (tie.spec (search rules) (search rules) (search rules) (search rules) (λ c. search product-fits) (λ c. search answer))
+pub breaks_v1_spec : {M : Type 1} → statement M
+breaks_v1_spec = tie.close (tie.spec (search rules) (search rules) (search rules) (search rules) (λ c. search product-fits) (λ c. search answer))

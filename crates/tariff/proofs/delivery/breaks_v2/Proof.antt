@@ -12,5 +12,5 @@ answer : (share mddq amount most out : _) → most ≡ percent share mddq → ou
 unfolding breaksV2
 answer share mddq amount most out e₁ e₂ = cc
 
-pub breaks-v2-spec : {M : Type 1} → statement M
-breaks-v2-spec = tie.close (tie.spec (search rules) (search rules) (λ c. search answer))
+pub breaks_v2_spec : {M : Type 1} → statement M
+breaks_v2_spec = tie.close (tie.spec (search rules) (search rules) (λ c. search answer))

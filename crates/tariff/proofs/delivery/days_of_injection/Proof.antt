@@ -16,6 +16,6 @@ answer : (days : ℕ) (m eleventh twelfth : _) → eleventh ≡ sameMonth m nove
 unfolding daysOfInjection
 answer days m eleventh twelfth e₁ e₂ e₃ = cc
 
-pub days-of-injection-spec : {M : Type 1} → statement M
+pub days_of_injection_spec : {M : Type 1} → statement M
 unfolding november december
-days-of-injection-spec = tie.close (tie.spec (search rules) (search rules) (search rules) (λ c. and-bound (λ days. days ≤ 30) (search answer) (search days-le)))
+days_of_injection_spec = tie.close (tie.spec (search rules) (search rules) (search rules) (λ c. and-bound (λ days. days ≤ 30) (search answer) (search days-le)))

@@ -18,8 +18,8 @@ returns c =
     rw (quotient-read s.args.delivered.0 s.args.back_cast.0 (10000 - s.args.retainage) s.requires.1 s.requires.2 (omega arith))
     (refl, retained-le s.args.retainage s.args.delivered s.args.back_cast s.requires.1 s.requires.2)
 
-pub retained-spec : {M : Type 1} → statement M
-retained-spec =
+pub retained_spec : {M : Type 1} → statement M
+retained_spec =
     tie.close
     (tie.spec
     (search rules) (search rules) (search rules) (search rules)

@@ -19,8 +19,8 @@ answer : (backCast : Quantity) (mdq : Dth) (x y share : ℕ) (bank bcq p low q l
 unfolding share_of
 answer backCast mdq x y share bank bcq p low q lower r lowest e₁ e₂ e₃ e₄ e₅ e₆ e₇ e₈ e₉ = cc
 
-pub share-of-spec : {M : Type 1} → statement M
-share-of-spec =
+pub share_of_spec : {M : Type 1} → statement M
+share_of_spec =
     tie.close
     (tie.spec
     (search rules) (search rules) (search rules) (search rules) (search rules) (search rules) (search rules) (search rules)

@@ -4,6 +4,6 @@ use Rattle.tariff.specs.Enrol.{openingTooHigh}
 use Rattle.tariff.proofs.enrol.opening_too_high.Statement.{statement}
 use Rattle.tariff.proofs.enrol.opening_too_high.Tie as tie
 
-pub opening-too-high-spec : {M : Type 1} → statement M
+pub opening_too_high_spec : {M : Type 1} → statement M
 unfolding openingTooHigh
-opening-too-high-spec = tie.close (tie.spec (search rules) (λ c. let most : tie.After-percent = search in rw most.percent.ensures.0))
+opening_too_high_spec = tie.close (tie.spec (search rules) (λ c. let most : tie.After-percent-most = search in rw most.percent-most.ensures.0))

@@ -4,6 +4,6 @@ use Rattle.tariff.specs.Enrol.{staysOnFbs}
 use Rattle.tariff.proofs.enrol.stays_on_fbs.Statement.{statement}
 use Rattle.tariff.proofs.enrol.stays_on_fbs.Tie as tie
 
-pub stays-on-fbs-spec : {M : Type 1} → statement M
+pub stays_on_fbs_spec : {M : Type 1} → statement M
 unfolding staysOnFbs
-stays-on-fbs-spec = tie.close (tie.spec (search rules))
+stays_on_fbs_spec = tie.close (tie.spec (search rules))

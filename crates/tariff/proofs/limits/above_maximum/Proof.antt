@@ -12,5 +12,5 @@ answer : (m bcq bank p most high : _) → p ≡ maximum m → most ≡ percent p
 unfolding aboveMaximum
 answer m bcq bank p most high e₁ e₂ e₃ = cc
 
-pub above-maximum-spec : {M : Type 1} → statement M
-above-maximum-spec = tie.close (tie.spec (search rules) (search rules) (search rules) (λ c. search answer))
+pub above_maximum_spec : {M : Type 1} → statement M
+above_maximum_spec = tie.close (tie.spec (search rules) (search rules) (search rules) (λ c. search answer))

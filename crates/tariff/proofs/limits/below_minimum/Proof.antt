@@ -12,5 +12,5 @@ answer : (m bcq bank p least low : _) → p ≡ minimum m → least ≡ percent 
 unfolding belowMinimum
 answer m bcq bank p least low e₁ e₂ e₃ = cc
 
-pub below-minimum-spec : {M : Type 1} → statement M
-below-minimum-spec = tie.close (tie.spec (search rules) (search rules) (search rules) (λ c. search answer))
+pub below_minimum_spec : {M : Type 1} → statement M
+below_minimum_spec = tie.close (tie.spec (search rules) (search rules) (search rules) (λ c. search answer))

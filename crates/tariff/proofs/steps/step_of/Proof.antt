@@ -5,6 +5,6 @@ use Rattle.tariff.specs.Steps.{step_of}
 use Rattle.tariff.proofs.steps.step_of.Statement.{statement}
 use Rattle.tariff.proofs.steps.step_of.Tie as tie
 
-pub step-of-spec : {M : Type 1} → statement M
+pub step_of_spec : {M : Type 1} → statement M
 unfolding step_of
-step-of-spec = tie.close (tie.spec (search rules) (λ c. (search rules, omega arith)))
+step_of_spec = tie.close (tie.spec (search rules) (λ c. (search rules, omega arith)))

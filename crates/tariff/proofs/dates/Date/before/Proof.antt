@@ -4,6 +4,6 @@ use Rattle.tariff.specs.Dates.{before}
 use Rattle.tariff.proofs.dates.Date.before.Statement.{statement}
 use Rattle.tariff.proofs.dates.Date.before.Tie as tie
 
-pub before-spec : {M : Type 1} → statement M
+pub before_spec : {M : Type 1} → statement M
 unfolding before
-before-spec = tie.close (tie.spec (λ c. search rules))
+before_spec = tie.close (tie.spec (λ c. search rules))

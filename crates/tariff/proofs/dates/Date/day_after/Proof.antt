@@ -23,9 +23,9 @@ answer : (d : Date) (year month day : ℕ) (ends twelfth : _) → ends ≡ lastO
 unfolding dayAfter
 answer d year month day ends twelfth e₁ e₂ e₃ e₄ e₅ = cc
 
-pub day-after-spec : {M : Type 1} → statement M
+pub day_after_spec : {M : Type 1} → statement M
 unfolding december
-day-after-spec =
+day_after_spec =
     tie.close
     (tie.spec
     (λ c κs. search rules) (search rules) (λ c. omega (arith, bounds (search))) (search rules) (search rules) (search rules)

@@ -18,8 +18,8 @@ answer : (d : Date) (lack short : ℕ) (longer : _) → d.month.0 ≤ 12 → lon
 unfolding dayNumber
 answer d lack short longer e₁ e₂ e₃ e₄ = cc (days-before d.year d.month.0 e₁)
 
-pub day-number-spec : {M : Type 1} → statement M
-day-number-spec =
+pub day_number_spec : {M : Type 1} → statement M
+day_number_spec =
     tie.close
     (tie.spec
     (search rules) (search rules) (search rules) (search rules) (search rules) (search rules) (λ c. search short-le)

@@ -5,6 +5,6 @@ use Rattle.tariff.specs.Months.{april}
 use Rattle.tariff.proofs.dates.Date.first_of_gas_year.Statement.{statement}
 use Rattle.tariff.proofs.dates.Date.first_of_gas_year.Tie as tie
 
-pub first-of-gas-year-spec : {M : Type 1} → statement M
+pub first_of_gas_year_spec : {M : Type 1} → statement M
 unfolding firstOfGasYear april
-first-of-gas-year-spec = tie.close (tie.spec (search rules) (λ c. search rules))
+first_of_gas_year_spec = tie.close (tie.spec (search rules) (λ c. search rules))

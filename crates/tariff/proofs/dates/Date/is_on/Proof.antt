@@ -4,6 +4,6 @@ use Rattle.tariff.specs.Dates.{isOn}
 use Rattle.tariff.proofs.dates.Date.is_on.Statement.{statement}
 use Rattle.tariff.proofs.dates.Date.is_on.Tie as tie
 
-pub is-on-spec : {M : Type 1} → statement M
+pub is_on_spec : {M : Type 1} → statement M
 unfolding isOn
-is-on-spec = tie.close (tie.spec (search rules) (λ c. let same : tie.After-is = search in rw same.is.ensures))
+is_on_spec = tie.close (tie.spec (search rules) (λ c. let same : tie.After-is = search in rw same.is.ensures))

@@ -5,6 +5,6 @@ use Rattle.tariff.specs.Months.{december}
 use Rattle.tariff.proofs.dates.Date.last_date.Statement.{statement}
 use Rattle.tariff.proofs.dates.Date.last_date.Tie as tie
 
-pub last-date-spec : {M : Type 1} → statement M
+pub last_date_spec : {M : Type 1} → statement M
 unfolding lastDate december
-last-date-spec = tie.close (tie.spec (search rules) (λ c. let on : tie.After-is-on = search in rw on.is-on.ensures))
+last_date_spec = tie.close (tie.spec (search rules) (λ c. let on : tie.After-is_on-new_years_eve = search in rw on.is_on-new_years_eve.ensures))

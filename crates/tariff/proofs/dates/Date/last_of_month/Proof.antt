@@ -8,10 +8,10 @@ use Rattle.tariff.proofs.dates.Date.last_of_month.Tie as tie
 bounds : (s : tie.Start) → DateBounds s.args.self
 bounds s = date-bounds s.args.self s.requires
 
-pub last-of-month-spec : {M : Type 1} → statement M
+pub last_of_month_spec : {M : Type 1} → statement M
 unfolding lastOfMonth
-last-of-month-spec =
+last_of_month_spec =
     tie.close
     (tie.spec
     (λ c κs. omega (arith, bounds (search)))
-    (λ c. let last : tie.After-month-length = search in rw last.month-length.ensures))
+    (λ c. let last : tie.After-month_length-last = search in rw last.month_length-last.ensures))

@@ -9,5 +9,5 @@ returns : tie.Need-returns
 unfolding confiscationDay january march
 returns c = let first : tie.After-is-on = search in rw (first.is-on.ensures, c.is-on2.ensures)
 
-pub on-confiscation-day-spec : {M : Type 1} → statement M
-on-confiscation-day-spec = tie.close (tie.spec (search rules) (search rules) returns)
+pub on_confiscation_day_spec : {M : Type 1} → statement M
+on_confiscation_day_spec = tie.close (tie.spec (search rules) (search rules) returns)

@@ -23,7 +23,7 @@ within : (d : Date) (last : ℕ) → last ≡ monthLength d.year d.month → inC
 unfolding real
 within d last e h = rw (e, h)
 
-pub real-spec : {M : Type 1} → statement M
-real-spec =
+pub real_spec : {M : Type 1} → statement M
+real_spec =
     tie.close
     (tie.spec (λ c. search (out, not-true)) (λ c κs. search (parts, leb-true, not-false)) (λ c. search (within, not-false)))

@@ -4,6 +4,6 @@ use Rattle.tariff.specs.Dates.{weekday}
 use Rattle.tariff.proofs.dates.Date.weekday.Statement.{statement}
 use Rattle.tariff.proofs.dates.Date.weekday.Tie as tie
 
-pub weekday-spec : {M : Type 1} → statement M
+pub weekday_spec : {M : Type 1} → statement M
 unfolding weekday
-weekday-spec = tie.close (tie.spec (search rules) (search rules) (λ c. let days : tie.After-day_number = search in rw days.day-number.ensures.0))
+weekday_spec = tie.close (tie.spec (search rules) (search rules) (λ c. let days : tie.After-day_number = search in rw days.day_number.ensures.0))

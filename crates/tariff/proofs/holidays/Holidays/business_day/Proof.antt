@@ -21,5 +21,5 @@ module _ (hs : List Date) (d : Date) (w : ℕ) (is : w ≡ weekday d) where
   unfolding businessDay
   other n e l = cc (lt-ltb w 5 l)
 
-pub business-day-spec : {M : Type 1} → statement M
-business-day-spec = tie.close (tie.spec (search rules) (λ c. search weekend) (search rules) (λ c. search other))
+pub business_day_spec : {M : Type 1} → statement M
+business_day_spec = tie.close (tie.spec (search rules) (λ c. search weekend) (search rules) (λ c. search other))

@@ -50,24 +50,24 @@ module _ (h : Holidays) (n : ℕ) where
     unfolding allLeaveOne
     ended l = sym (and-true ok) ∙ ap (λ (ds : List Date). ok && allLeaveOne (heldDates h) ds) (sym (none-to-come h n i r.walked l)) ∙ r.whole
 
-abbrev invariant-loop : tie.invariant-loop
+abbrev invariant-loop : tie.invariant-loop-i
 invariant-loop self n ok₀ i₀ ok i = Rest self n ok i
 
-abbrev decreases-loop : tie.decreases-loop
+abbrev decreases-loop : tie.decreases-loop-i
 decreases-loop self n ok₀ i₀ ok i = n - i
 
-pub in-range-spec : {M : Type 1} → statement M
-in-range-spec =
+pub in_range_spec : {M : Type 1} → statement M
+in_range_spec =
     tie.close
     (tie.spec invariant-loop decreases-loop
     (search rules)
     (λ c. at_first _ _ (search (rules, length-mapped)) (search))
-    (λ c. let at : tie.At-loop invariant-loop decreases-loop = search in omega (arith, at.loop.inv.walked))
-    (λ c. let at : tie.At-loop invariant-loop decreases-loop = search in omega (arith, at.loop.inv.walked))
+    (λ c. let at : tie.At-loop-i invariant-loop decreases-loop = search in omega (arith, at.loop.inv.walked))
+    (λ c. let at : tie.At-loop-i invariant-loop decreases-loop = search in omega (arith, at.loop.inv.walked))
     (search rules)
-    (λ c. let at : tie.At-loop invariant-loop decreases-loop = search in not-real _ _ _ _ at.loop.inv _ _ (search) (let t : tie.After-real invariant-loop decreases-loop = search in t.real.ensures) (search))
+    (λ c. let at : tie.At-loop-i invariant-loop decreases-loop = search in not-real _ _ _ _ at.loop.inv _ _ (search) (let t : tie.After-real invariant-loop decreases-loop = search in t.real.ensures) (search))
     (λ c κs. let t : tie.After-real invariant-loop decreases-loop = search in sym t.real.ensures ∙ not-false _ (search))
-    (λ c. let at : tie.At-loop invariant-loop decreases-loop = search in omega (arith, at.loop.inv.walked))
+    (λ c. let at : tie.At-loop-i invariant-loop decreases-loop = search in omega (arith, at.loop.inv.walked))
     (λ c. omega arith)
-    (λ c. let at : tie.At-loop invariant-loop decreases-loop = search in one_more _ _ _ _ at.loop.inv _ _ _ _ (search) (let t : tie.After-real invariant-loop decreases-loop = search in t.real.ensures) (search) (let t : tie.After-leaves-one invariant-loop decreases-loop = search in t.leaves-one.ensures) refl)
-    (λ c. let at : tie.At-loop invariant-loop decreases-loop = search in ended _ _ _ _ at.loop.inv (search)))
+    (λ c. let at : tie.At-loop-i invariant-loop decreases-loop = search in one_more _ _ _ _ at.loop.inv _ _ _ _ (search) (let t : tie.After-real invariant-loop decreases-loop = search in t.real.ensures) (search) (let t : tie.After-leaves_one-left invariant-loop decreases-loop = search in t.leaves-one.ensures) refl)
+    (λ c. let at : tie.At-loop-i invariant-loop decreases-loop = search in ended _ _ _ _ at.loop.inv (search)))

@@ -19,5 +19,5 @@ module _ (d first : Date) (t : Bool) (is : t ≡ before d first) where
   unfolding keptFrom
   stays h r e f hs s = f hs s ∙ rw (sym is ∙ e)
 
-pub keeping-spec : {M : Type 1} → statement M
-keeping-spec = tie.close (tie.spec (search rules) (λ c. search gone) (λ c κs. search rules) (λ c. search stays))
+pub keeping_spec : {M : Type 1} → statement M
+keeping_spec = tie.close (tie.spec (search rules) (λ c. search gone) (λ c κs. search rules) (λ c. search stays))

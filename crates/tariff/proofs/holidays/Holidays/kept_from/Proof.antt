@@ -43,23 +43,23 @@ module _ (first : Date) (h : Holidays) (n : ℕ) where
     ended : n ≤ i → next ≡ storedDates (keptFrom first (heldDates h))
     ended l = p.stored ∙ ap (λ (hs : List Date). storedDates (keptFrom first hs)) (all-passed h n i p.walked l)
 
-abbrev invariant-loop : tie.invariant-loop
+abbrev invariant-loop : tie.invariant-loop-i
 invariant-loop first self n next₀ i₀ next i = Passed first self n next i
 
-abbrev decreases-loop : tie.decreases-loop
+abbrev decreases-loop : tie.decreases-loop-i
 decreases-loop first self n next₀ i₀ next i = n - i
 
-pub kept-from-spec : {M : Type 1} → statement M
-kept-from-spec =
+pub kept_from_spec : {M : Type 1} → statement M
+kept_from_spec =
     tie.close
     (tie.spec invariant-loop decreases-loop
     (search rules)
     (search rules)
     (λ c. at_first _ _ _ _ (search (rules, length-mapped)) (search) (search))
-    (λ c. let at : tie.At-loop invariant-loop decreases-loop = search in omega (arith, at.loop.inv.walked))
-    (λ c. let at : tie.At-loop invariant-loop decreases-loop = search in omega (arith, at.loop.inv.walked))
-    (λ c κs. let at : tie.At-loop invariant-loop decreases-loop = search in omega (arith, at.loop.inv.walked, at.loop.inv.counted))
-    (λ c. let at : tie.At-loop invariant-loop decreases-loop = search in omega (arith, at.loop.inv.walked))
+    (λ c. let at : tie.At-loop-i invariant-loop decreases-loop = search in omega (arith, at.loop-i.inv.walked))
+    (λ c. let at : tie.At-loop-i invariant-loop decreases-loop = search in omega (arith, at.loop-i.inv.walked))
+    (λ c κs. let at : tie.At-loop-i invariant-loop decreases-loop = search in omega (arith, at.loop-i.inv.walked, at.loop-i.inv.counted))
+    (λ c. let at : tie.At-loop-i invariant-loop decreases-loop = search in omega (arith, at.loop-i.inv.walked))
     (λ c. omega arith)
-    (λ c. let at : tie.At-loop invariant-loop decreases-loop = search in one_more _ _ _ _ _ at.loop.inv _ _ _ (search) (let t : tie.After-keeping invariant-loop decreases-loop = search in t.keeping.ensures) refl)
-    (λ c. let at : tie.At-loop invariant-loop decreases-loop = search in ended _ _ _ _ _ at.loop.inv (search)))
+    (λ c. let at : tie.At-loop-i invariant-loop decreases-loop = search in one_more _ _ _ _ _ at.loop-i.inv _ _ _ (search) (let t : tie.After-keeping-next invariant-loop decreases-loop = search in t.keeping.ensures) refl)
+    (λ c. let at : tie.At-loop-i invariant-loop decreases-loop = search in ended _ _ _ _ _ at.loop-i.inv (search)))

@@ -8,10 +8,10 @@ use Rattle.tariff.proofs.holidays.Holidays.leaves_one.Tie as tie
 bounds : (s : tie.Start) → DateBounds s.args.d
 bounds s = date-bounds s.args.d s.requires
 
-pub leaves-one-spec : {M : Type 1} → statement M
+pub leaves_one_spec : {M : Type 1} → statement M
 unfolding leavesOne
-leaves-one-spec =
+leaves_one_spec =
     tie.close
     (tie.spec
     (λ c κs. omega (arith, bounds (search)))
-    (λ c. let day : tie.After-measurement-day = search in rw day.measurement-day.ensures))
+    (λ c. let day : tie.After-measurement_day-day = search in rw day.measurement-day.ensures))

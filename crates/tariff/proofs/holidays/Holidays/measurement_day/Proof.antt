@@ -42,21 +42,21 @@ module _ (h : Holidays) (year : ℕ) (m : Month) (last : ℕ) where
     unfolding firstBusinessDay
     none l = let gone : last + 1 - day ≡ 0 = omega arith in (rw gone at t.rest)
 
-abbrev invariant-loop : tie.invariant-loop
+abbrev invariant-loop : tie.invariant-loop-day
 invariant-loop self year month last day₀ day = ToCome self year month last day
 
-abbrev decreases-loop : tie.decreases-loop
+abbrev decreases-loop : tie.decreases-loop-day
 decreases-loop self year month last day₀ day = 32 - day
 
-pub measurement-day-spec : {M : Type 1} → statement M
-measurement-day-spec =
+pub measurement_day_spec : {M : Type 1} → statement M
+measurement_day_spec =
     tie.close
     (tie.spec invariant-loop decreases-loop
     (λ c κs. search rules)
     (λ c. search at_first)
-    (λ c κs. let at : tie.At-loop invariant-loop decreases-loop = search in let s : tie.Start invariant-loop decreases-loop = search in omega (arith, s.pre, at.loop.inv))
-    (λ c. let at : tie.At-loop invariant-loop decreases-loop = search in here _ _ _ _ _ at.loop.inv _ (search) (let b : tie.After-business-day invariant-loop decreases-loop = search in b.business-day.ensures) (search))
-    (λ c. let at : tie.At-loop invariant-loop decreases-loop = search in omega (arith, at.loop.inv))
-    (λ c. let at : tie.At-loop invariant-loop decreases-loop = search in omega (arith, at.loop.inv))
-    (λ c. let at : tie.At-loop invariant-loop decreases-loop = search in one_more _ _ _ _ _ at.loop.inv _ (search) (let b : tie.After-business-day invariant-loop decreases-loop = search in b.business-day.ensures) (search))
-    (λ c. let at : tie.At-loop invariant-loop decreases-loop = search in none _ _ _ _ _ at.loop.inv (search)))
+    (λ c κs. let at : tie.At-loop-day invariant-loop decreases-loop = search in let s : tie.Start invariant-loop decreases-loop = search in omega (arith, s.requires, at.loop.inv))
+    (λ c. let at : tie.At-loop-day invariant-loop decreases-loop = search in here _ _ _ _ _ at.loop.inv _ (search) (let b : tie.After-business_day-works invariant-loop decreases-loop = search in b.business-day.ensures) (search))
+    (λ c. let at : tie.At-loop-day invariant-loop decreases-loop = search in omega (arith, at.loop.inv))
+    (λ c. let at : tie.At-loop-day invariant-loop decreases-loop = search in omega (arith, at.loop.inv))
+    (λ c. let at : tie.At-loop-day invariant-loop decreases-loop = search in one_more _ _ _ _ _ at.loop.inv _ (search) (let b : tie.After-business_day-works invariant-loop decreases-loop = search in b.business-day.ensures) (search))
+    (λ c. let at : tie.At-loop-day invariant-loop decreases-loop = search in none _ _ _ _ _ at.loop.inv (search)))

@@ -43,22 +43,22 @@ module _ (h : Holidays) (d : Date) (n : ℕ) where
     unfolding named
     ended l = sym (or-false found) ∙ ap (λ (xs : List Date). found || named xs d) (sym (none-to-come h n i r.walked l)) ∙ r.whole
 
-abbrev invariant-loop : tie.invariant-loop
+abbrev invariant-loop : tie.invariant-loop-i
 invariant-loop d self n found₀ i₀ found i = Rest self d n found i
 
-abbrev decreases-loop : tie.decreases-loop
+abbrev decreases-loop : tie.decreases-loop-i
 decreases-loop d self n found₀ i₀ found i = n - i
 
-pub names-spec : {M : Type 1} → statement M
-names-spec =
+pub names_spec : {M : Type 1} → statement M
+names_spec =
     tie.close
     (tie.spec invariant-loop decreases-loop
     (search rules)
     (λ c. at_first _ _ _ (search (rules, length-mapped)) (search))
-    (λ c. let at : tie.At-loop invariant-loop decreases-loop = search in omega (arith, at.loop.inv.walked))
-    (λ c. let at : tie.At-loop invariant-loop decreases-loop = search in omega (arith, at.loop.inv.walked))
+    (λ c. let at : tie.At-loop-i invariant-loop decreases-loop = search in omega (arith, at.loop-i.inv.walked))
+    (λ c. let at : tie.At-loop-i invariant-loop decreases-loop = search in omega (arith, at.loop-i.inv.walked))
     (search rules)
-    (λ c. let at : tie.At-loop invariant-loop decreases-loop = search in omega (arith, at.loop.inv.walked))
+    (λ c. let at : tie.At-loop-i invariant-loop decreases-loop = search in omega (arith, at.loop-i.inv.walked))
     (λ c. omega arith)
-    (λ c. let at : tie.At-loop invariant-loop decreases-loop = search in one_more _ _ _ _ _ at.loop.inv _ _ _ (search) (let t : tie.After-same invariant-loop decreases-loop = search in t.same.ensures) refl)
-    (λ c. let at : tie.At-loop invariant-loop decreases-loop = search in ended _ _ _ _ _ at.loop.inv (search)))
+    (λ c. let at : tie.At-loop-i invariant-loop decreases-loop = search in one_more _ _ _ _ _ at.loop-i.inv _ _ _ (search) (let t : tie.After-same-same invariant-loop decreases-loop = search in t.same.ensures) refl)
+    (λ c. let at : tie.At-loop-i invariant-loop decreases-loop = search in ended _ _ _ _ _ at.loop-i.inv (search)))

@@ -37,24 +37,24 @@ module _ (h : Holidays) (n : ℕ) where
     ended : (d : Date) (r : Holidays) → n ≤ i → ((hs : List Date) → next ≡ storedDates hs → r ≡ storedDates (hs ++ (d ∷ []))) → r ≡ storedDates (heldDates h ++ (d ∷ []))
     ended d r l f = f (heldDates h) (p.stored ∙ ap storedDates (all-passed h n i p.walked l))
 
-abbrev invariant-loop : tie.invariant-loop
+abbrev invariant-loop : tie.invariant-loop-i
 invariant-loop d self n next₀ i₀ next i = Passed self n next i
 
-abbrev decreases-loop : tie.decreases-loop
+abbrev decreases-loop : tie.decreases-loop-i
 decreases-loop d self n next₀ i₀ next i = n - i
 
-pub naming-spec : {M : Type 1} → statement M
-naming-spec =
+pub naming_spec : {M : Type 1} → statement M
+naming_spec =
     tie.close
     (tie.spec invariant-loop decreases-loop
     (search rules)
     (search rules)
     (λ c. at_first _ _ _ (search (rules, length-mapped)) (search) (search))
-    (λ c. let at : tie.At-loop invariant-loop decreases-loop = search in omega (arith, at.loop.inv.walked))
-    (λ c. let at : tie.At-loop invariant-loop decreases-loop = search in omega (arith, at.loop.inv.walked))
-    (λ c κs. let at : tie.At-loop invariant-loop decreases-loop = search in omega (arith, at.loop.inv.walked, at.loop.inv.counted))
-    (λ c. let at : tie.At-loop invariant-loop decreases-loop = search in omega (arith, at.loop.inv.walked))
+    (λ c. let at : tie.At-loop-i invariant-loop decreases-loop = search in omega (arith, at.loop-i.inv.walked))
+    (λ c. let at : tie.At-loop-i invariant-loop decreases-loop = search in omega (arith, at.loop-i.inv.walked))
+    (λ c κs. let at : tie.At-loop-i invariant-loop decreases-loop = search in omega (arith, at.loop-i.inv.walked, at.loop-i.inv.counted))
+    (λ c. let at : tie.At-loop-i invariant-loop decreases-loop = search in omega (arith, at.loop-i.inv.walked))
     (λ c. omega arith)
-    (λ c. let at : tie.At-loop invariant-loop decreases-loop = search in one_more _ _ _ _ at.loop.inv _ _ _ (search) (let t : tie.After-followed-by invariant-loop decreases-loop = search in t.followed-by.ensures) refl)
-    (λ c κs. let at : tie.At-loop invariant-loop decreases-loop = search in omega (arith, at.loop.inv.walked, at.loop.inv.counted))
-    (λ c. let at : tie.At-loop invariant-loop decreases-loop = search in ended _ _ _ _ at.loop.inv _ _ (search) (let t : tie.After-followed-by2 invariant-loop decreases-loop = search in t.followed-by2.ensures)))
+    (λ c. let at : tie.At-loop-i invariant-loop decreases-loop = search in one_more _ _ _ _ at.loop-i.inv _ _ _ (search) (let t : tie.After-followed_by invariant-loop decreases-loop = search in t.followed-by.ensures) refl)
+    (λ c κs. let at : tie.At-loop-i invariant-loop decreases-loop = search in omega (arith, at.loop-i.inv.walked, at.loop-i.inv.counted))
+    (λ c. let at : tie.At-loop-i invariant-loop decreases-loop = search in ended _ _ _ _ at.loop-i.inv _ _ (search) (let t : tie.After-followed_by invariant-loop decreases-loop = search in t.followed-by2.ensures)))

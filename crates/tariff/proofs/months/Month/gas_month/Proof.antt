@@ -5,6 +5,6 @@ use Rattle.tariff.specs.Months.{gasMonth}
 use Rattle.tariff.proofs.months.Month.gas_month.Statement.{statement}
 use Rattle.tariff.proofs.months.Month.gas_month.Tie as tie
 
-pub gas-month-spec : {M : Type 1} → statement M
+pub gas_month_spec : {M : Type 1} → statement M
 unfolding gasMonth
-gas-month-spec = tie.close (tie.spec (search rules) (λ c. (omega arith, omega arith)))
+gas_month_spec = tie.close (tie.spec (search rules) (λ c. (omega arith, omega arith)))

@@ -4,6 +4,6 @@ use Rattle.tariff.specs.Months.{sameMonth}
 use Rattle.tariff.proofs.months.Month.is.Statement.{statement}
 use Rattle.tariff.proofs.months.Month.is.Tie as tie
 
-pub is-spec : {M : Type 1} → statement M
+pub is_spec : {M : Type 1} → statement M
 unfolding sameMonth
-is-spec = tie.close (tie.spec (search rules))
+is_spec = tie.close (tie.spec (search rules))

@@ -11,5 +11,5 @@ returns : tie.Need-returns
 unfolding maximum
 returns c = and-bound (λ share. share ≤ 102) c.percent_in.ensures (search maximum-le)
 
-pub maximum-spec : {M : Type 1} → statement M
-maximum-spec = tie.close (tie.spec (search rules) returns)
+pub maximum_spec : {M : Type 1} → statement M
+maximum_spec = tie.close (tie.spec (search rules) returns)

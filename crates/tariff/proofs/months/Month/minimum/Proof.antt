@@ -11,5 +11,5 @@ returns : tie.Need-returns
 unfolding minimum
 returns c = and-bound (λ share. share ≤ 102) c.percent_in.ensures (search minimum-le)
 
-pub minimum-spec : {M : Type 1} → statement M
-minimum-spec = tie.close (tie.spec (search rules) returns)
+pub minimum_spec : {M : Type 1} → statement M
+minimum_spec = tie.close (tie.spec (search rules) returns)

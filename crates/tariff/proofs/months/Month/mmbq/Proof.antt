@@ -11,5 +11,5 @@ returns : tie.Need-returns
 unfolding mmbq
 returns c = and-bound (λ share. share ≤ 102) c.percent_in.ensures (search mmbq-le)
 
-pub mmbq-spec : {M : Type 1} → statement M
-mmbq-spec = tie.close (tie.spec (search rules) returns)
+pub mmbq_spec : {M : Type 1} → statement M
+mmbq_spec = tie.close (tie.spec (search rules) returns)

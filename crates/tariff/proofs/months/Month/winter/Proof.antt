@@ -4,6 +4,6 @@ use Rattle.tariff.specs.Months.{winter}
 use Rattle.tariff.proofs.months.Month.winter.Statement.{statement}
 use Rattle.tariff.proofs.months.Month.winter.Tie as tie
 
-pub winter-spec : {M : Type 1} → statement M
+pub winter_spec : {M : Type 1} → statement M
 unfolding winter
-winter-spec = tie.close (tie.spec (search rules) (λ c. let at : tie.After-gas_month = search in rw at.gas-month.ensures.0))
+winter_spec = tie.close (tie.spec (search rules) (λ c. let at : tie.After-gas_month = search in rw at.gas_month.ensures.0))

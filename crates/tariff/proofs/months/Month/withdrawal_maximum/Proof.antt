@@ -11,5 +11,5 @@ returns : tie.Need-returns
 unfolding withdrawalMaximum
 returns c = and-bound (λ share. share ≤ 102) c.percent_in.ensures (search withdrawal-maximum-le)
 
-pub withdrawal-maximum-spec : {M : Type 1} → statement M
-withdrawal-maximum-spec = tie.close (tie.spec (search rules) returns)
+pub withdrawal_maximum_spec : {M : Type 1} → statement M
+withdrawal_maximum_spec = tie.close (tie.spec (search rules) returns)

@@ -11,5 +11,5 @@ returns : tie.Need-returns
 unfolding withdrawalMinimum
 returns c = and-bound (λ share. share ≤ 102) c.percent_in.ensures (search withdrawal-minimum-le)
 
-pub withdrawal-minimum-spec : {M : Type 1} → statement M
-withdrawal-minimum-spec = tie.close (tie.spec (search rules) returns)
+pub withdrawal_minimum_spec : {M : Type 1} → statement M
+withdrawal_minimum_spec = tie.close (tie.spec (search rules) returns)

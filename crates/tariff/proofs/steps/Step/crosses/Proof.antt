@@ -15,5 +15,5 @@ answer : (s m over under : _) → over ≡ is_over s m → under ≡ isUnder s m
 unfolding crosses
 answer s m over under e₁ e₂ = cc (far-over-test s.k m.0, far-under-test s.k m.0)
 
-pub crosses-spec : {M : Type 1} → statement M
-crosses-spec = tie.close (tie.spec (search rules) (search rules) (search rules) (search rules) (λ c. search answer))
+pub crosses_spec : {M : Type 1} → statement M
+crosses_spec = tie.close (tie.spec (search rules) (search rules) (search rules) (search rules) (λ c. search answer))

@@ -4,6 +4,6 @@ use Rattle.tariff.specs.Steps.{falls}
 use Rattle.tariff.proofs.steps.Step.falls.Statement.{statement}
 use Rattle.tariff.proofs.steps.Step.falls.Tie as tie
 
-pub falls-spec : {M : Type 1} → statement M
+pub falls_spec : {M : Type 1} → statement M
 unfolding falls
-falls-spec = tie.close (tie.spec (search rules))
+falls_spec = tie.close (tie.spec (search rules))

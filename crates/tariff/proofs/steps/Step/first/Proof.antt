@@ -7,4 +7,4 @@ use Rattle.tariff.proofs.steps.Step.first.Tie as tie
 
 pub first_spec : {M : Type 1} → statement M
 unfolding firstStep
-first_spec = tie.close (tie.spec (search rules) (λ c. let step : tie.After-step-of = search in (rw step.step_of_lem.ensures.0, omega arith)))
+first_spec = tie.close (tie.spec (search rules) (λ c. let step : tie.After-step_of-k = search in (rw step.step_of-k.ensures.0, omega arith)))

@@ -5,6 +5,6 @@ use Rattle.tariff.specs.Steps.{is_over}
 use Rattle.tariff.proofs.steps.Step.is_over.Statement.{statement}
 use Rattle.tariff.proofs.steps.Step.is_over.Tie as tie
 
-pub is-over-spec : {M : Type 1} → statement M
+pub is_over_spec : {M : Type 1} → statement M
 unfolding is_over
-is-over-spec = tie.close (tie.spec (search rules) (λ c. search over-test))
+is_over_spec = tie.close (tie.spec (search rules) (λ c. search over-test))

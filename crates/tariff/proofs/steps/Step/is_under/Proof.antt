@@ -5,6 +5,6 @@ use Rattle.tariff.specs.Steps.{isUnder}
 use Rattle.tariff.proofs.steps.Step.is_under.Statement.{statement}
 use Rattle.tariff.proofs.steps.Step.is_under.Tie as tie
 
-pub is-under-spec : {M : Type 1} → statement M
+pub is_under_spec : {M : Type 1} → statement M
 unfolding isUnder
-is-under-spec = tie.close (tie.spec (search rules) (λ c. search under-test))
+is_under_spec = tie.close (tie.spec (search rules) (λ c. search under-test))

@@ -16,8 +16,8 @@ answer : (s : Step) (m crossed k next p above run over below fall under : _) →
 unfolding measured
 answer s m crossed k next p above run over below fall under e₁ e₂ e₃ e₄ e₅ e₆ e₇ e₈ e₉ e₁₀ = cc
 
-pub measured-spec : {M : Type 1} → statement M
-measured-spec =
+pub measured_spec : {M : Type 1} → statement M
+measured_spec =
     tie.close
     (tie.spec
     (search rules) (search rules) (search rules) (search rules) (search rules) (search rules) (search rules) (search rules)

@@ -4,6 +4,6 @@ use Rattle.tariff.specs.Steps.{settledStep}
 use Rattle.tariff.proofs.steps.Step.settled.Statement.{statement}
 use Rattle.tariff.proofs.steps.Step.settled.Tie as tie
 
-pub settled-spec : {M : Type 1} → statement M
+pub settled_spec : {M : Type 1} → statement M
 unfolding settledStep
-settled-spec = tie.close (tie.spec (search rules))
+settled_spec = tie.close (tie.spec (search rules))

@@ -19,5 +19,5 @@ returns : tie.Need-returns
 unfolding bcqOf
 returns c = and-bound (λ bcq. bcq.0 ≤ 30000000) refl (search bcq-le)
 
-pub bcq-spec : {M : Type 1} → statement M
-bcq-spec = tie.close (tie.spec (λ c. omega (arith, bounds (search))) (λ c. omega (arith, bounds (search))) returns)
+pub bcq_spec : {M : Type 1} → statement M
+bcq_spec = tie.close (tie.spec (λ c. omega (arith, bounds (search))) (λ c. omega (arith, bounds (search))) returns)

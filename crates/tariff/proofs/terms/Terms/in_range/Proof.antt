@@ -22,9 +22,9 @@ returns c = let s : tie.Start = search in let out : fits s.args.self ≡ false =
 mul-stored : tie.Need-overflow_mul-stored
 mul-stored c = let s : tie.Start = search in let bound : s.args.self.no_notice.0 ≤ 10000000 = search (parts, leb-true, not-false) in omega arith
 
-returns-2 : tie.Need-returns-2
+returns-2 : tie.Need-returns
 unfolding termsInRange
 returns-2 c = let s : tie.Start = search in let within : fits s.args.self ≡ true = search not-false in rw within
 
-pub in-range-spec : {M : Type 1} → statement M
-in-range-spec = tie.close (tie.spec returns mul-stored returns-2)
+pub in_range_spec : {M : Type 1} → statement M
+in_range_spec = tie.close (tie.spec returns mul-stored returns-2)

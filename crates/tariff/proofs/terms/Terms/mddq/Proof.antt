@@ -20,5 +20,5 @@ returns : tie.Need-returns
 unfolding mddqOf
 returns c = and-bound (λ mddq. mddq.0 ≤ 300000) refl (search mddq-le)
 
-pub mddq-spec : {M : Type 1} → statement M
-mddq-spec = tie.close (tie.spec (search rules) (λ c. omega (arith, bounds (search))) (λ c. omega (arith, bounds (search))) returns)
+pub mddq_spec : {M : Type 1} → statement M
+mddq_spec = tie.close (tie.spec (search rules) (λ c. omega (arith, bounds (search))) (λ c. omega (arith, bounds (search))) returns)
