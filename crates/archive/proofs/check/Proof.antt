@@ -28,8 +28,8 @@ module _ (a : List ℕ) (wrong : Bool) (w : wrong ≡ wrongHeader a) where
     unfolding checked
     entries-checked t new n c e = cc (not-false right t)
 
-pub check-spec : {M : Type 1} → statement M
-check-spec =
+pub check_spec : {M : Type 1} → statement M
+check_spec =
     tie.close
     (tie.spec
     (λ c κs. search rules)

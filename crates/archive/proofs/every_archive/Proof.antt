@@ -27,5 +27,5 @@ struck : StrikingChangesNothing
 unfolding replayed freshFor
 struck a = striking-changes-nothing (isNew a) (entriesIn a)
 
-pub every-archive-spec : {M : Type 1} → statement M
-every-archive-spec = tie.close (tie.spec (λ c. (banks, (figure, (debts, (days, struck))))))
+pub every_archive_spec : {M : Type 1} → statement M
+every_archive_spec = tie.close (tie.spec (λ c. (banks, (figure, (debts, (days, struck))))))

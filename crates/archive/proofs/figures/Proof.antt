@@ -15,5 +15,5 @@ figured : (a : List ℕ) (r : Replay) (p : Panel) → r ≡ replayed a → p ≡
 unfolding figuresOf
 figured a r p e f = cc
 
-pub figures-spec : {M : Type 1} → statement M
-figures-spec = tie.close (tie.spec (λ c κs. search rules) (λ c κs. search rules) (λ c. search figured))
+pub figures_spec : {M : Type 1} → statement M
+figures_spec = tie.close (tie.spec (λ c κs. search rules) (λ c κs. search rules) (λ c. search figured))

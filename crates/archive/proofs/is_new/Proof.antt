@@ -13,5 +13,5 @@ asked : (a : List ℕ) (r : Bool) → r ≡ opensAs true a → r ≡ isNew a
 unfolding isNew
 asked a r e = e
 
-pub is-new-spec : {M : Type 1} → statement M
-is-new-spec = tie.close (tie.spec (λ c. search too_short) (λ c κs. search rules) (λ c. search asked))
+pub is_new_spec : {M : Type 1} → statement M
+is_new_spec = tie.close (tie.spec (λ c. search too_short) (λ c κs. search rules) (λ c. search asked))

@@ -3,5 +3,5 @@ use Rattle.archive.proofs.OldArchives.{fourth-byte-tells, one-byte-apart, old-is
 use Rattle.archive.proofs.old_and_new.Statement.{statement}
 use Rattle.archive.proofs.old_and_new.Tie as tie
 
-pub old-and-new-spec : {M : Type 1} → statement M
-old-and-new-spec = tie.close (tie.spec (λ c. (fourth-byte-tells, (one-byte-apart, (old-is-not-new, (old-kinds-only, later-kinds-refused))))))
+pub old_and_new_spec : {M : Type 1} → statement M
+old_and_new_spec = tie.close (tie.spec (λ c. (fourth-byte-tells, (one-byte-apart, (old-is-not-new, (old-kinds-only, later-kinds-refused))))))

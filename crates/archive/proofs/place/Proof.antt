@@ -46,9 +46,9 @@ module _ (c : tie.After-check) (z : c.check.result.number ≡ 0) where
   unfolding start
   sizes = search accepted-sizes
 
-pub place-spec : {M : Type 1} → statement M
+pub place_spec : {M : Type 1} → statement M
 unfolding start
-place-spec =
+place_spec =
     tie.close
     (tie.spec
     (λ c κs. search rules)

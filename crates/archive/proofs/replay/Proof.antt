@@ -26,5 +26,5 @@ replays a list new c r b e f n i y x l =
     posted : {A : Type 0} (g : Ledger → List (List ℕ) → A) → g (fresh new) (entriesOf list) ≡ g (fresh (isNew a)) (entriesOf (listIn a))
     posted g = ap₂ (λ m s. g (fresh m) (entriesOf s)) b f
 
-pub replay-spec : {M : Type 1} → statement M
-replay-spec = tie.close (tie.spec (λ c κs. search rules) (λ c κs. cc) (λ c κs. search rules) (λ c κs. search rules) (λ c. search replays))
+pub replay_spec : {M : Type 1} → statement M
+replay_spec = tie.close (tie.spec (λ c κs. search rules) (λ c κs. cc) (λ c κs. search rules) (λ c κs. search rules) (λ c. search replays))

@@ -3,5 +3,5 @@ use Rattle.archive.proofs.round_trips.Statement.{statement}
 use Rattle.archive.proofs.round_trips.Tie as tie
 use Rattle.archive.proofs.Trips.{reads-back, writes-back}
 
-pub round-trips-spec : {M : Type 1} → statement M
-round-trips-spec = tie.close (tie.spec (λ c. (reads-back, writes-back)))
+pub round_trips_spec : {M : Type 1} → statement M
+round_trips_spec = tie.close (tie.spec (λ c. (reads-back, writes-back)))

@@ -14,8 +14,8 @@ part : (a : List ℕ) (i : ℕ) (p : Place) → p ≡ place_of a i → take (p.s
 unfolding sectionAt
 part a i p e = cc (add-sub_cancel_left p.start p.length)
 
-pub section-spec : {M : Type 1} → statement M
-section-spec =
+pub section_spec : {M : Type 1} → statement M
+section_spec =
     tie.close
     (tie.spec
     (λ c κs. search rules)

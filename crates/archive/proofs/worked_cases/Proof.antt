@@ -98,5 +98,5 @@ worked =
 returns : tie.Need-returns
 returns c = worked
 
-pub worked-cases-spec : {M : Type 1} → statement M
-worked-cases-spec = tie.close (tie.spec returns)
+pub worked_cases_spec : {M : Type 1} → statement M
+worked_cases_spec = tie.close (tie.spec returns)

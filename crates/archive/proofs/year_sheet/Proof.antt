@@ -18,5 +18,5 @@ sheet : (a list : List ℕ) (new : Bool) (y : ℕ) (r : List (List Units)) → n
 unfolding sheetOf freshFor entriesIn
 sheet a list new y r b e f = f ∙ ap₂ (λ m s. grid (λ i n. cellAfter y i n noBank (fresh m) (entriesOf s))) b e
 
-pub year-sheet-spec : {M : Type 1} → statement M
-year-sheet-spec = tie.close (tie.spec (λ c κs. search rules) (λ c κs. cc) (λ c κs. search rules) (λ c κs. search rules) (λ c. search sheet))
+pub year_sheet_spec : {M : Type 1} → statement M
+year_sheet_spec = tie.close (tie.spec (λ c κs. search rules) (λ c κs. cc) (λ c κs. search rules) (λ c κs. search rules) (λ c. search sheet))

@@ -29,8 +29,8 @@ module _ (curve : LoadCurve) (f : Float) (numbers : _) (n : numbers ≡ allNumbe
 passed : (load : Float) (quantity : _) → quantity ≡ isQuantity load → not quantity ≡ false → isQuantity load ≡ true
 passed load quantity e t = sym e ∙ not-false quantity t
 
-pub back-cast-spec : {M : Type 1} → statement M
-back-cast-spec =
+pub back_cast_spec : {M : Type 1} → statement M
+back_cast_spec =
     tie.close
     (tie.spec
     (search rules) (search rules) (λ c. search no-numbers)

@@ -75,5 +75,5 @@ exact curve f base slope turning at b s t a =
 doubles : WholeNumbersAreDoubles
 doubles z most h k = widen h (integer z (omega arith))
 
-pub exact-case-spec : {M : Type 1} → statement M
-exact-case-spec = tie.close (tie.spec (λ c. (doubles, exact)))
+pub exact_case_spec : {M : Type 1} → statement M
+exact_case_spec = tie.close (tie.spec (λ c. (doubles, exact)))

@@ -19,5 +19,5 @@ every-answer curve f =
 only_one : OnlyOne
 only_one x m n g h = le_antisymm (h.noGreater m g.notAbove) (g.noGreater n h.notAbove)
 
-pub greatest-whole-spec : {M : Type 1} → statement M
-greatest-whole-spec = tie.close (tie.spec (λ c. (every-answer, only_one)))
+pub greatest_whole_spec : {M : Type 1} → statement M
+greatest_whole_spec = tie.close (tie.spec (λ c. (every-answer, only_one)))

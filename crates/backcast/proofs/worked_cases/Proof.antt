@@ -23,5 +23,5 @@ all =
       noNumbers = (refl, refl, refl, refl, refl, refl, refl, refl);
     }
 
-pub worked-cases-spec : {M : Type 1} → statement M
-worked-cases-spec = tie.close (tie.spec (λ c. all))
+pub worked_cases_spec : {M : Type 1} → statement M
+worked_cases_spec = tie.close (tie.spec (λ c. all))

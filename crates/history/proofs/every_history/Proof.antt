@@ -7,5 +7,5 @@ use Rattle.history.proofs.every_history.Tie as tie
 returns : tie.Need-returns
 returns c = (banks-add-up, (panel-adds-up, (debts-add-up, (days-add-up, (striking-changes-nothing, only-closings-count)))))
 
-pub every-history-spec : {M : Type 1} → statement M
-every-history-spec = tie.close (tie.spec returns)
+pub every_history_spec : {M : Type 1} → statement M
+every_history_spec = tie.close (tie.spec returns)

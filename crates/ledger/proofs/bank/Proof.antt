@@ -21,8 +21,8 @@ returns c =
     let past : length s.args.t1.accounts ≤ s.args.account = omega (arith, sixteen s) in
     rw (c.nothing.ensures, nothing-value, get_or-eq_default s.args.t1.accounts nobody past)
 
-pub bank-spec : {M : Type 1} → statement M
+pub bank_spec : {M : Type 1} → statement M
 unfolding bankOf accountAt nobody noTotals noMonth noToday
-bank-spec =
+bank_spec =
     tie.close
     (tie.spec (λ c κs. search rules) returns (λ c. search rules) (λ c. search rules) (λ c κs. search rules) (λ c. c.open-bank.ensures.0))

@@ -57,5 +57,5 @@ all-cases =
       numbers = (refl, refl, refl, refl, refl);
     }
 
-pub confiscated-cases-spec : {M : Type 1} → statement M
-confiscated-cases-spec = tie.close (tie.spec (λ c. all-cases))
+pub confiscated_cases_spec : {M : Type 1} → statement M
+confiscated_cases_spec = tie.close (tie.spec (λ c. all-cases))

@@ -21,6 +21,6 @@ module _ (new : Bool) (b : List ℕ) where
   unfolding formNumber
   whole h e n p q = cc (eq-eqb (length b) 32 h)
 
-pub entry-number-spec : {M : Type 1} → statement M
-entry-number-spec =
+pub entry_number_spec : {M : Type 1} → statement M
+entry_number_spec =
     tie.close (tie.spec (λ c. search otherwise) (λ c κs. search rules) (λ c κs. search rules) (λ c. search whole))

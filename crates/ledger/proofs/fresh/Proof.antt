@@ -4,9 +4,9 @@ use Rattle.ledger.specs.State.{fresh}
 use Rattle.ledger.proofs.fresh.Statement.{statement}
 use Rattle.ledger.proofs.fresh.Tie as tie
 
-pub fresh-spec : {M : Type 1} → statement M
+pub fresh_spec : {M : Type 1} → statement M
 unfolding fresh
-fresh-spec =
+fresh_spec =
     tie.close
     (tie.spec (λ c κs. search rules) (λ c κs. search rules) (λ c κs. search rules)
     (λ c. rw (c.none.ensures, (let at : tie.After-in-one-piece = search in at.in-one-piece.ensures), (let at : tie.After-nobody = search in at.nobody.ensures))))

@@ -55,5 +55,5 @@ all-cases =
       numbers = (refl, refl, refl, refl);
     }
 
-pub holiday-cases-spec : {M : Type 1} → statement M
-holiday-cases-spec = tie.close (tie.spec (λ c. all-cases))
+pub holiday_cases_spec : {M : Type 1} → statement M
+holiday_cases_spec = tie.close (tie.spec (λ c. all-cases))

@@ -53,5 +53,5 @@ all-nine =
       overfull = refl;
     }
 
-pub marked-cases-spec : {M : Type 1} → statement M
-marked-cases-spec = tie.close (tie.spec (λ c. all-nine))
+pub marked_cases_spec : {M : Type 1} → statement M
+marked_cases_spec = tie.close (tie.spec (λ c. all-nine))

@@ -4,5 +4,5 @@ use Rattle.ledger.proofs.OldLedgers.{places-stay}
 use Rattle.ledger.proofs.measuring_days.Statement.{statement}
 use Rattle.ledger.proofs.measuring_days.Tie as tie
 
-pub measuring-days-spec : {M : Type 1} → statement M
-measuring-days-spec = tie.close (tie.spec (λ c. (stays-in-range, (every-month-measured, (places-stay, (drops-passed, (holds-it, (same-today, moves-measuring))))))))
+pub measuring_days_spec : {M : Type 1} → statement M
+measuring_days_spec = tie.close (tie.spec (λ c. (stays-in-range, (every-month-measured, (places-stay, (drops-passed, (holds-it, (same-today, moves-measuring))))))))

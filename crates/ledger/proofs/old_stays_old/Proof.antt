@@ -4,5 +4,5 @@ use Rattle.ledger.proofs.OldLedgers.{keeps-which, nine-kinds, stays-as-before, f
 use Rattle.ledger.proofs.old_stays_old.Statement.{statement}
 use Rattle.ledger.proofs.old_stays_old.Tie as tie
 
-pub old-stays-old-spec : {M : Type 1} → statement M
-old-stays-old-spec = tie.close (tie.spec (λ c. (keeps-which, (nine-kinds, (stays-as-before, (forfeits-by-rule, (reports-alike, (accepts-alike, alike-otherwise))))))))
+pub old_stays_old_spec : {M : Type 1} → statement M
+old_stays_old_spec = tie.close (tie.spec (λ c. (keeps-which, (nine-kinds, (stays-as-before, (forfeits-by-rule, (reports-alike, (accepts-alike, alike-otherwise))))))))

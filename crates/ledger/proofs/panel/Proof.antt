@@ -19,5 +19,5 @@ returns-2 : tie.Need-returns-2
 unfolding panelOf
 returns-2 c = let fits : tie.After-in-range = search in rw (sym fits.in-range.ensures ∙ c.if1.false)
 
-pub panel-spec : {M : Type 1} → statement M
-panel-spec = tie.close (tie.spec (λ c κs. search rules) open-banks-requires returns returns-2)
+pub panel_spec : {M : Type 1} → statement M
+panel_spec = tie.close (tie.spec (λ c κs. search rules) open-banks-requires returns returns-2)

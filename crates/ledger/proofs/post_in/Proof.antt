@@ -18,9 +18,9 @@ function-is : function ≡ code.function
 unfolding ledger-ty answer-ty
 function-is = refl
 
-pub post-in-spec : {M : Type 1} → stated.statement M
+pub post_in_spec : {M : Type 1} → stated.statement M
 unfolding code.routine tables_of
-post-in-spec 𝓤 𝓛 𝓜 𝓡 =
+post_in_spec 𝓤 𝓛 𝓜 𝓡 =
     let 𝓣 = tables_of 𝓤 𝓛.H 𝓜 (tables 𝓤 𝓛.H 𝓜 𝓡 code.env) in
     entered 𝓤 𝓛.H (triple_of 𝓛 post_in.signature (post_in.spec 𝓛 𝓜.mem 𝓡.run))
     (tables 𝓤 𝓛.H 𝓜 𝓡 code.env).C (tables 𝓤 𝓛.H 𝓜 𝓡 code.env).Λ #ledger·post-in code.function (code.unfolded 𝓤 𝓛.H 𝓜 𝓡)

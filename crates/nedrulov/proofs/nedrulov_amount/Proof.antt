@@ -29,6 +29,6 @@ returns c =
     let same : to_z w64 (of_z w64 kept.retained.result.0) ≡ kept.retained.result.0 = search rules in
     rw same (search amount)
 
-pub nedrulov-amount-spec : {M : Type 1} → statement M
+pub nedrulov_amount_spec : {M : Type 1} → statement M
 unfolding deliverable
-nedrulov-amount-spec = tie.close (tie.spec (λ c κs. search (parts, leb-true)) returns (λ c. search nothing-moved))
+nedrulov_amount_spec = tie.close (tie.spec (λ c κs. search (parts, leb-true)) returns (λ c. search nothing-moved))

@@ -27,9 +27,9 @@ module _ (month bcq : ℕ) where
   unfolding bandOf
   no-limits f = cc
 
-pub nedrulov-band-spec : {M : Type 1} → statement M
+pub nedrulov_band_spec : {M : Type 1} → statement M
 unfolding limited
-nedrulov-band-spec =
+nedrulov_band_spec =
     tie.close
     (tie.spec
     (search rules) (λ c κs. (search, search in-range)) (search rules) (λ c κs. (search, search in-range))

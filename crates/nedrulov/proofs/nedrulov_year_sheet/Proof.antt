@@ -25,5 +25,5 @@ returns-2 c =
     let long : ltb (length d) 192 ≡ false = search le-ltb in
     (rw long, rw long (put.put-cells.ensures ∙ ap (λ (t : List (List Units)). cells_of t ++ drop 192 d) sheet.year-sheet.ensures))
 
-pub nedrulov-year-sheet-spec : {M : Type 1} → statement M
-nedrulov-year-sheet-spec = tie.close (tie.spec returns (search rules) (search rules) (search rules) returns-2)
+pub nedrulov_year_sheet_spec : {M : Type 1} → statement M
+nedrulov_year_sheet_spec = tie.close (tie.spec returns (search rules) (search rules) (search rules) returns-2)

@@ -5,5 +5,5 @@ use Rattle.partners.proofs.Orders.{every-order}
 use Rattle.partners.proofs.every_list.Statement.{statement}
 use Rattle.partners.proofs.every_list.Tie as tie
 
-pub every-list-spec : {M : Type 1} → statement M
-every-list-spec = tie.close (tie.spec (λ c. (every-list, (every-order, λ l. only_one l (every-order l)))))
+pub every_list_spec : {M : Type 1} → statement M
+every_list_spec = tie.close (tie.spec (λ c. (every-list, (every-order, λ l. only_one l (every-order l)))))

@@ -74,5 +74,5 @@ listed-can-be-sent l s j q n w =
     (λ h. eq-eqb (posted l (transferToday l s j q)).answer.number 0 (accepted-if l s j q n w (listed-transferable l s j q h)))
     (λ h. transferable-listed l s j q (accepted-only-if l s j q w (eqb-true (posted l (transferToday l s j q)).answer.number 0 h)))
 
-pub listed-can-be-sent-spec : {M : Type 1} → statement M
-listed-can-be-sent-spec = tie.close (tie.spec (λ c. listed-can-be-sent))
+pub listed_can_be_sent_spec : {M : Type 1} → statement M
+listed_can_be_sent_spec = tie.close (tie.spec (λ c. listed-can-be-sent))

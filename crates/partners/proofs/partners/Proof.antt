@@ -22,8 +22,8 @@ module _ (l : Ledger) (s q n : ℕ) (e : n ≡ verdict (partnerChecks l s q)) wh
   unfolding partnersOf answer
   with-partners r count accounts a c p z = cc (eq-eqb n 0 z)
 
-pub partners-spec : {M : Type 1} → statement M
-partners-spec =
+pub partners_spec : {M : Type 1} → statement M
+partners_spec =
     tie.close
     (tie.spec
     (search rules)

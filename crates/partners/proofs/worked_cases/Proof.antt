@@ -45,5 +45,5 @@ all-cases =
       sent = (refl, refl, refl);
     }
 
-pub worked-cases-spec : {M : Type 1} → statement M
-worked-cases-spec = tie.close (tie.spec (λ c. all-cases))
+pub worked_cases_spec : {M : Type 1} → statement M
+worked_cases_spec = tie.close (tie.spec (λ c. all-cases))

@@ -4,8 +4,8 @@ use borrow.Author.Rules.{rules}
 use Rattle.postings.proofs.byte.Statement.{statement}
 use Rattle.postings.proofs.byte.Tie as tie
 
-pub byte-spec : {M : Type 1} → statement M
-byte-spec =
+pub byte_spec : {M : Type 1} → statement M
+byte_spec =
     tie.close
     (tie.spec
     (search rules) (λ c. let s : tie.Start = search in omega (arith, c.shared-slice-known.given s.args.at))

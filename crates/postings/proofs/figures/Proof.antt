@@ -10,8 +10,8 @@ invariant-loop what l i₀ i = i ≤ 16
 abbrev decreases-loop : tie.decreases-loop
 decreases-loop what l i₀ i = 16 - i
 
-pub figures-spec : {M : Type 1} → statement M
-figures-spec =
+pub figures_spec : {M : Type 1} → statement M
+figures_spec =
     tie.close
     (tie.spec
     invariant-loop decreases-loop (search rules) (search rules) (search rules) (search rules) (search rules) (search rules) (search rules)

@@ -10,8 +10,8 @@ invariant-loop a i₀ i = i ≤ 16
 abbrev decreases-loop : tie.decreases-loop
 decreases-loop a i₀ i = 16 - i
 
-pub reports-spec : {M : Type 1} → statement M
-reports-spec =
+pub reports_spec : {M : Type 1} → statement M
+reports_spec =
     tie.close
     (tie.spec
     invariant-loop decreases-loop (search rules) (search rules) (search rules) (search rules) (search rules) (search rules) (search rules)

@@ -5,8 +5,8 @@ use Rattle.tariff.proofs.Sizes.{size-nothing}
 use Rattle.postings.proofs.units_of.Statement.{statement}
 use Rattle.postings.proofs.units_of.Tie as tie
 
-pub units-of-spec : {M : Type 1} → statement M
-units-of-spec =
+pub units_of_spec : {M : Type 1} → statement M
+units_of_spec =
     tie.close
     (tie.spec
     (search rules) (search rules) (search rules) (search rules) (search rules)

@@ -12,8 +12,8 @@ bill-requires c κs =
     let prices : tie.After-in-range2 = search in
     ((sym terms.in-range.ensures ∙ (search not-false), sym prices.in-range2.ensures ∙ (search not-false)), (omega arith, (omega arith, omega arith)))
 
-pub bill-spec : {M : Type 1} → statement M
-bill-spec =
+pub bill_spec : {M : Type 1} → statement M
+bill_spec =
     tie.close
     (tie.spec
     (search rules) (search rules) (search rules) (search rules) bill-requires (search rules) (search rules) (search rules)

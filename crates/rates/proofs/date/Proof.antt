@@ -3,8 +3,8 @@ use borrow.Author.Rules.{rules}
 use Rattle.rates.proofs.date.Statement.{statement}
 use Rattle.rates.proofs.date.Tie as tie
 
-pub date-spec : {M : Type 1} → statement M
-date-spec =
+pub date_spec : {M : Type 1} → statement M
+date_spec =
     tie.close
     (tie.spec
     (search rules) (search rules) (search rules) (search rules) (search rules) (search rules) (λ c κs. cc) (search rules)

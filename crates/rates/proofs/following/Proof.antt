@@ -3,8 +3,8 @@ use borrow.Author.Rules.{rules}
 use Rattle.rates.proofs.following.Statement.{statement}
 use Rattle.rates.proofs.following.Tie as tie
 
-pub following-spec : {M : Type 1} → statement M
-following-spec =
+pub following_spec : {M : Type 1} → statement M
+following_spec =
     tie.close
     (tie.spec
     (λ c κs. search rules) (search rules) (search rules) (search rules) (search rules) (λ c κs. cc) (search rules)

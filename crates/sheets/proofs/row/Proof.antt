@@ -10,8 +10,8 @@ invariant-loop banks m₀ t5 t6 m = m ≤ 12
 abbrev decreases-loop : tie.decreases-loop
 decreases-loop banks m₀ t5 t6 m = 12 - m
 
-pub row-spec : {M : Type 1} → statement M
-row-spec =
+pub row_spec : {M : Type 1} → statement M
+row_spec =
     tie.close
     (tie.spec
     invariant-loop decreases-loop (search rules) (search rules) (search rules) (search rules) (search rules) (search rules) (search rules)

@@ -10,8 +10,8 @@ invariant-loop rows i₀ i = i ≤ 16
 abbrev decreases-loop : tie.decreases-loop
 decreases-loop rows i₀ i = 16 - i
 
-pub sheet-spec : {M : Type 1} → statement M
-sheet-spec =
+pub sheet_spec : {M : Type 1} → statement M
+sheet_spec =
     tie.close
     (tie.spec
     invariant-loop decreases-loop (search rules) (search rules) (search rules) (search rules) (search rules) (search rules) (search rules)

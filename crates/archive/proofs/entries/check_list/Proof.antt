@@ -44,8 +44,8 @@ module _ (new : Bool) (s : List ℕ) (n k : ℕ) (r : Rest new s n k) where
     unfolding firstRefusal
     passed z j i = rw i (record { within = omega arith; all = r.all; same = cc (rw (entries_next n k s more) at r.same) })
 
-pub check-list-spec : {M : Type 1} → statement M
-check-list-spec =
+pub check_list_spec : {M : Type 1} → statement M
+check_list_spec =
     tie.close
     (tie.spec
     invariant-loop

@@ -5,6 +5,6 @@ use Rattle.archive.specs.Entries.{closesMonth}
 use Rattle.archive.proofs.entries.closes_month.Statement.{statement}
 use Rattle.archive.proofs.entries.closes_month.Tie as tie
 
-pub closes-month-spec : {M : Type 1} → statement M
+pub closes_month_spec : {M : Type 1} → statement M
 unfolding closesMonth
-closes-month-spec = tie.close (tie.spec (λ c. search rules) (λ c. rw kind-byte))
+closes_month_spec = tie.close (tie.spec (λ c. search rules) (λ c. rw kind-byte))

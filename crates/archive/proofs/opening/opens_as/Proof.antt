@@ -8,7 +8,7 @@ returns : tie.Need-returns
 unfolding opensAs
 returns c = let at : tie.After-fourth-byte = search in rw at.fourth-byte.ensures
 
-pub opens-as-spec : {M : Type 1} → statement M
-opens-as-spec =
+pub opens_as_spec : {M : Type 1} → statement M
+opens_as_spec =
     tie.close
     (tie.spec (λ c κs. search rules) (λ c. search rules) (λ c. search rules) (λ c. search rules) (λ c. search rules) returns)

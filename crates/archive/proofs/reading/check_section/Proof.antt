@@ -50,8 +50,8 @@ module _ (new : Bool) (s : List ℕ) (first : ℕ) (last : Bool) (n k : ℕ) (r 
         let l : first + (k + 1) ≡ first + k + 1 = omega arith in
         rw i (record { within = omega arith; all = r.all; same = cc (rw (numbers-next new last n k s more) at r.same) })
 
-pub check-section-spec : {M : Type 1} → statement M
-check-section-spec =
+pub check_section_spec : {M : Type 1} → statement M
+check_section_spec =
     tie.close
     (tie.spec
     invariant-loop

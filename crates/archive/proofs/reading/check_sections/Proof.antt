@@ -72,8 +72,8 @@ module _ (new : Bool) (a : List ℕ) (n first i : ℕ) (r : Rest new a n first i
           let long : length (part_at a (pair_at a i)) ≡ l = cc (section-bytes a o l part-within, add-sub_cancel_left o l) in
           rw (u, v) (record { within = omega arith; all = r.all; small = omega (arith, r); same = section-passes new a n i first more c l long here k ∙ r.same })
 
-pub check-sections-spec : {M : Type 1} → statement M
-check-sections-spec =
+pub check_sections_spec : {M : Type 1} → statement M
+check_sections_spec =
     tie.close
     (tie.spec
     invariant-loop

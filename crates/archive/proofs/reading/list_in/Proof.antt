@@ -31,8 +31,8 @@ module _ (a : List ℕ) (number : ℕ) (is : number ≡ (checked a).number) wher
 fits : (s : tie.Start) → s.args.number ≡ 0 → Measured s.args.archive.now
 fits s z = sizes s.args.archive.now s.args.number (search) z
 
-pub list-in-spec : {M : Type 1} → statement M
-list-in-spec =
+pub list_in_spec : {M : Type 1} → statement M
+list_in_spec =
     tie.close
     (tie.spec
     (search rules)

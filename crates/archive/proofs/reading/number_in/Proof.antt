@@ -30,8 +30,8 @@ module _ (new ends last : Bool) (e : List ℕ) (n : ℕ) (p : n ≡ formNumber n
     unfolding number_in misplaced
     in_place t = cc (place-test closes ends last)
 
-pub number-in-spec : {M : Type 1} → statement M
-number-in-spec =
+pub number_in_spec : {M : Type 1} → statement M
+number_in_spec =
     tie.close
     (tie.spec
     (λ c κs. search rules)

@@ -56,8 +56,8 @@ module _ (a : List ℕ) (n end i : ℕ) (r : Rest a n end i) where
     unfolding rightPairs rightLength pair_at
     pair-right t b next j u v = rw (u, v) (record { within = omega arith; all = r.all; small = omega arith; same = cc (rw (pairs_next a n i more) at r.same, not-false right t) })
 
-pub right-directory-spec : {M : Type 1} → statement M
-right-directory-spec =
+pub right_directory_spec : {M : Type 1} → statement M
+right_directory_spec =
     tie.close
     (tie.spec
     invariant-loop

@@ -4,6 +4,6 @@ use borrow.Author.Rules.{rules}
 use Rattle.archive.proofs.reading.section_count.Statement.{statement}
 use Rattle.archive.proofs.reading.section_count.Tie as tie
 
-pub section-count-spec : {M : Type 1} → statement M
+pub section_count_spec : {M : Type 1} → statement M
 unfolding sectionCount
-section-count-spec = tie.close (tie.spec (λ c κs. search rules) (λ c. search rules))
+section_count_spec = tie.close (tie.spec (λ c κs. search rules) (λ c. search rules))

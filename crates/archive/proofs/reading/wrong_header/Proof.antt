@@ -24,8 +24,8 @@ returns-2 c =
     let new : tie.After-opens-as2 = search in
     rw (old.opens_as.ensures, new.opens-as2.ensures, n.section-count.ensures.0, le-ltb (length s.args.archive.now) 8 (search))
 
-pub wrong-header-spec : {M : Type 1} → statement M
-wrong-header-spec =
+pub wrong_header_spec : {M : Type 1} → statement M
+wrong_header_spec =
     tie.close
     (tie.spec
     (λ c. search too_short)

@@ -63,8 +63,8 @@ module _ (new : Bool) (s : List ℕ) (n : ℕ) (l : Ledger) (accepted refused k 
       let neither = count-over n k s l asRefused h in
       (omega (arith, r), omega (arith, r), sym (run-over n k s l h) ∙ r.same)
 
-pub post-all-spec : {M : Type 1} → statement M
-post-all-spec =
+pub post_all_spec : {M : Type 1} → statement M
+post_all_spec =
     tie.close
     (tie.spec
     invariant-loop
@@ -84,4 +84,4 @@ post-all-spec =
     (λ c. search rules)
     (λ c. search rules)
     (λ c. search one-posted)
-    (λ c. let v : tie.At-loop invariant-loop decreases-loop = search in let e = all-posted _ _ _ _ _ _ _ v.loop.inv (search) in ((refl, refl), (e.0, (e.1, e.2)))))
+    (λ c. let v : tie.At-loop invariant-loop decreases-loop = search in let e = all-posted _ _ _ _ _ _ _ v.loop.invariant (search) in ((refl, refl), (e.0, (e.1, e.2)))))

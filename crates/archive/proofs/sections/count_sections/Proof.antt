@@ -49,9 +49,9 @@ module _ (c : tie.After-first-section invariant-loop decreases-loop) where
   unfolding start loop
   found = search (first-at, arith)
 
-pub count-sections-spec : {M : Type 1} → statement M
+pub count_sections_spec : {M : Type 1} → statement M
 unfolding start loop
-count-sections-spec =
+count_sections_spec =
     tie.close
     (tie.spec
     invariant-loop

@@ -41,8 +41,8 @@ module _ (s : List ℕ) (n k : ℕ) (r : Rest s n k) where
     goes_on : closes ≡ false → (j : ℕ) → j ≡ k + 1 → Rest s n j
     goes_on t j i = rw i (record { within = omega arith; all = r.all; same = omega (arith, lead-later n k s more (sym e ∙ t)) })
 
-pub first-section-spec : {M : Type 1} → statement M
-first-section-spec =
+pub first_section_spec : {M : Type 1} → statement M
+first_section_spec =
     tie.close
     (tie.spec
     invariant-loop

@@ -4,6 +4,6 @@ use mathlib.Core.Path.{refl}
 use Rattle.archive.proofs.sheet.empty_sheet.Statement.{statement}
 use Rattle.archive.proofs.sheet.empty_sheet.Tie as tie
 
-pub empty-sheet-spec : {M : Type 1} → statement M
+pub empty_sheet_spec : {M : Type 1} → statement M
 unfolding up_to grid noBank
-empty-sheet-spec = tie.close (tie.spec (λ c. refl))
+empty_sheet_spec = tie.close (tie.spec (λ c. refl))

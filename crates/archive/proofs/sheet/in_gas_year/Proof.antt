@@ -38,8 +38,8 @@ module _ (s : List ℕ) (year dated : ℕ) (h : length s ≡ 32) (p : dated ≡ 
   unfolding inGasYear
   to-march m d = rw (date, month-byte s, lt-leb 4 (get_or s 6 0) m) (before dated year d)
 
-pub in-gas-year-spec : {M : Type 1} → statement M
-in-gas-year-spec =
+pub in_gas_year_spec : {M : Type 1} → statement M
+in_gas_year_spec =
     tie.close
     (tie.spec
     (λ c κs. search rules)

@@ -46,10 +46,10 @@ module _ (s : tie.Start) where
   column p h = same-columns (bankIn s.args.ledger) (cell_at s.args.sheet) p closing h
 
   unchanged : ((m : ℕ) → false ≡ closing m) → s.args.sheet ≡ grid (λ i m. cond (closing m) (bankIn s.args.ledger i) (cell_at s.args.sheet i m))
-  unchanged h = s.pre.0 ∙ column (λ m. false) h
+  unchanged h = s.requires.0 ∙ column (λ m. false) h
 
-pub noted-spec : {M : Type 1} → statement M
-noted-spec =
+pub noted_spec : {M : Type 1} → statement M
+noted_spec =
     tie.close
     (tie.spec
     (λ c. unchanged (search) (search refused))

@@ -55,8 +55,8 @@ module _ (new : Bool) (s : List ℕ) (year n : ℕ) (l : Ledger) (sheet : List (
         same = after_next year sheet next l p entry (firstEntries (n - (k + 1)) (drop (32 * (k + 1)) s)) e f ∙ (rw (entries_next n k s more) at r.same);
       })
 
-pub sheet-of-spec : {M : Type 1} → statement M
-sheet-of-spec =
+pub sheet_of_spec : {M : Type 1} → statement M
+sheet_of_spec =
     tie.close
     (tie.spec
     invariant-loop
@@ -77,4 +77,4 @@ sheet-of-spec =
     (λ c. search rules)
     (λ c. search rules)
     (λ c. search one-noted)
-    (λ c. let v : tie.At-loop invariant-loop decreases-loop = search in all_noted _ _ _ _ _ _ _ v.loop.inv (search)))
+    (λ c. let v : tie.At-loop invariant-loop decreases-loop = search in all_noted _ _ _ _ _ _ _ v.loop.invariant (search)))

@@ -43,8 +43,8 @@ module _ (l : Ledger) (month : ℕ) (sheet next : List (List Units)) (i : ℕ) (
         same = ap (λ (z : ℤ). set next i (set (get_or next i []) month (record { 0 = z }))) e ∙ filled_next (bankIn l) (cell_at sheet) month i next h m r.same;
       })
 
-pub with-column-spec : {M : Type 1} → statement M
-with-column-spec =
+pub with_column_spec : {M : Type 1} → statement M
+with_column_spec =
     tie.close
     (tie.spec
     invariant-loop
@@ -58,4 +58,4 @@ with-column-spec =
     (λ c. search rules)
     (λ c. search rules)
     (λ c. search row-filled)
-    (λ c. let v : tie.At-loop invariant-loop decreases-loop = search in all-filled _ _ _ _ _ v.loop.inv (search)))
+    (λ c. let v : tie.At-loop invariant-loop decreases-loop = search in all-filled _ _ _ _ _ v.loop.invariant (search)))

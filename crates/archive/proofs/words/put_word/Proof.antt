@@ -11,8 +11,8 @@ returns : tie.Need-returns
 unfolding bytes_of
 returns c = let s : tie.Start = search in four-stored s.args.out.now s.args.at _ _ _ _ (omega arith)
 
-pub put-word-spec : {M : Type 1} → statement M
-put-word-spec =
+pub put_word_spec : {M : Type 1} → statement M
+put_word_spec =
     tie.close
     (tie.spec
     (λ c. search rules)

@@ -10,8 +10,8 @@ returns c =
     let s : tie.Start = search in
     (rw (word_bytes s.args.bytes.now s.args.at) (omega arith), omega arith)
 
-pub word-spec : {M : Type 1} → statement M
-word-spec =
+pub word_spec : {M : Type 1} → statement M
+word_spec =
     tie.close
     (tie.spec
     (λ c. search rules)

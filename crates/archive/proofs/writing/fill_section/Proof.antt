@@ -28,5 +28,5 @@ returns c =
     let e : tie.After-copy = search in
     filled s.args.section.now s.args.out.now _ e.copy.ensures.1 (search)
 
-pub fill-section-spec : {M : Type 1} → statement M
-fill-section-spec = tie.close (tie.spec (search rules) same_length returns)
+pub fill_section_spec : {M : Type 1} → statement M
+fill_section_spec = tie.close (tie.spec (search rules) same_length returns)

@@ -43,8 +43,8 @@ module _ (new : Bool) (list d x : List ℕ) (n : ℕ) (w : Planned list (length 
       let same = ap length hy ∙ length-paste x 8 (directory (body_at n) (sectionsOf (entriesOf list))) (8 * n) pairs-fit (omega (arith, length-directory (body_at n) (sectionsOf (entriesOf list)))) in
       omega (arith, w, headed)
 
-pub put-archive-spec : {M : Type 1} → statement M
-put-archive-spec =
+pub put_archive_spec : {M : Type 1} → statement M
+put_archive_spec =
     tie.close
     (tie.spec
     (λ c κs. (planned (search)).whole)

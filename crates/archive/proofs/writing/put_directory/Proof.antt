@@ -88,9 +88,9 @@ module _ (c : tie.After-first-section invariant-loop decreases-loop) where
   unfolding start loop
   found = search (first-at, arith)
 
-pub put-directory-spec : {M : Type 1} → statement M
+pub put_directory_spec : {M : Type 1} → statement M
 unfolding start loop
-put-directory-spec =
+put_directory_spec =
     tie.close
     (tie.spec
     invariant-loop

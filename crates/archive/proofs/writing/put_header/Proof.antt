@@ -19,8 +19,8 @@ returns c =
     rw fourth.fourth-byte.ensures
     (sets-eq (openingBytes s.args.is-new ++ n % 256 ∷ n / 256 % 256 ∷ 0 ∷ 0 ∷ []) s.args.out.now 0 (omega arith))
 
-pub put-header-spec : {M : Type 1} → statement M
-put-header-spec =
+pub put_header_spec : {M : Type 1} → statement M
+put_header_spec =
     tie.close
     (tie.spec
     (λ c κs. search rules)

@@ -68,11 +68,11 @@ loop-again c =
     let g : tie.After-first-section invariant-loop decreases-loop = search in
     let e : tie.After-fill-section invariant-loop decreases-loop = search in
     let v = loop g in
-    section-put _ _ _ _ _ _ v.loop.inv (search) g.first-section.result (found g) e.fill-section.last.0 _ _ refl e.fill-section.ensures refl
+    section-put _ _ _ _ _ _ v.loop.invariant (search) g.first-section.result (found g) e.fill-section.last.0 _ _ refl e.fill-section.ensures refl
 
-pub put-sections-spec : {M : Type 1} → statement M
+pub put_sections_spec : {M : Type 1} → statement M
 unfolding start loop
-put-sections-spec =
+put_sections_spec =
     tie.close
     (tie.spec
     invariant-loop

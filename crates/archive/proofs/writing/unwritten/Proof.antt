@@ -4,6 +4,6 @@ use mathlib.Core.Path.{refl}
 use Rattle.archive.proofs.writing.unwritten.Statement.{statement}
 use Rattle.archive.proofs.writing.unwritten.Tie as tie
 
-pub unwritten-spec : {M : Type 1} → statement M
+pub unwritten_spec : {M : Type 1} → statement M
 unfolding unwritten
-unwritten-spec = tie.close (tie.spec (λ c. refl))
+unwritten_spec = tie.close (tie.spec (λ c. refl))

@@ -18,5 +18,5 @@ returns : tie.Need-returns
 unfolding Ieee.div Ieee.neg Ieee.of_bits
 returns c = between c.args.x
 
-pub is-number-spec : {M : Type 1} → statement M
-is-number-spec = tie.close (tie.spec returns)
+pub is_number_spec : {M : Type 1} → statement M
+is_number_spec = tie.close (tie.spec returns)

@@ -8,5 +8,5 @@ returns : tie.Need-returns
 unfolding Ieee.of_bits
 returns c = quantity-is c.args.x
 
-pub is-quantity-spec : {M : Type 1} → statement M
-is-quantity-spec = tie.close (tie.spec returns)
+pub is_quantity_spec : {M : Type 1} → statement M
+is_quantity_spec = tie.close (tie.spec returns)

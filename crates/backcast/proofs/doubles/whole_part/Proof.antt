@@ -80,11 +80,11 @@ int-to-float-if1 : tie.Need-int-to-float-if1 invariant-loop decreases-loop
 unfolding Ieee.in_float
 int-to-float-if1 c =
     let l : tie.At-loop invariant-loop decreases-loop = search in
-    let m = l.loop.inv.most in
+    let m = l.loop.invariant.most in
     le→leb (l.loop.high - (l.loop.high - l.loop.low) / 2) (2 ^ 53) (omega arith)
 
-pub whole-part-spec : {M : Type 1} → statement M
-whole-part-spec =
+pub whole_part_spec : {M : Type 1} → statement M
+whole_part_spec =
     tie.close
     (tie.spec
     invariant-loop decreases-loop

@@ -4,6 +4,6 @@ use Rattle.ledger.specs.Answers.{plain, refused}
 use Rattle.ledger.proofs.answers.answered.Statement.{statement}
 use Rattle.ledger.proofs.answers.answered.Tie as tie
 
-pub answered-spec : {M : Type 1} → statement M
+pub answered_spec : {M : Type 1} → statement M
 unfolding refused plain
-answered-spec = tie.close (tie.spec (λ c κs. search rules) (λ c. rw c.quiet.ensures))
+answered_spec = tie.close (tie.spec (λ c κs. search rules) (λ c. rw c.quiet.ensures))

@@ -4,6 +4,6 @@ use Rattle.ledger.specs.Answers.{quiet}
 use Rattle.ledger.proofs.answers.quiet.Statement.{statement}
 use Rattle.ledger.proofs.answers.quiet.Tie as tie
 
-pub quiet-spec : {M : Type 1} → statement M
+pub quiet_spec : {M : Type 1} → statement M
 unfolding quiet
-quiet-spec = tie.close (tie.spec (λ c. search rules))
+quiet_spec = tie.close (tie.spec (λ c. search rules))

@@ -17,6 +17,6 @@ module _ (l next : Ledger) (n : ℕ) (r : Posted) where
   unfolding settle refused
   kept d p = cc (ne_eqb n 0 d)
 
-pub settle-spec : {M : Type 1} → statement M
-settle-spec =
+pub settle_spec : {M : Type 1} → statement M
+settle_spec =
     tie.close (tie.spec (λ c κs. search rules) (λ c. search accepted) (λ c κs. search rules) (λ c. search kept))

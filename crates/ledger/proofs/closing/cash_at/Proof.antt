@@ -8,6 +8,6 @@ use Rattle.ledger.proofs.closing.cash_at.Tie as tie
 known : (s : tie.Start) → Bounded s.args.a
 known s = bounded s.args.a s.requires
 
-pub cash-at-spec : {M : Type 1} → statement M
+pub cash_at_spec : {M : Type 1} → statement M
 unfolding cashAt
-cash-at-spec = tie.close (tie.spec (λ c κs. search (known (search))) (λ c. search (rules, known (search))))
+cash_at_spec = tie.close (tie.spec (λ c κs. search (known (search))) (λ c. search (rules, known (search))))

@@ -27,9 +27,9 @@ module _ (new : Bool) (t : Terms) (e : Entry) (a : Account) (open' : a.opened �
 close-month-requires : tie.Need-close-month-requires
 close-month-requires c κs =
     let s : tie.Start = search in
-    ((s.pre.0.0, s.pre.0.1, s.pre.1), (s.pre.0.2, rw c.prices.ensures (s.pre.0.3 (search))))
+    ((s.requires.0.0, s.requires.0.1, s.requires.1), (s.requires.0.2, rw c.prices.ensures (s.requires.0.3 (search))))
 
-pub close-account-spec : {M : Type 1} → statement M
-close-account-spec =
+pub close_account_spec : {M : Type 1} → statement M
+close_account_spec =
     tie.close
     (tie.spec (λ c κs. search rules) (λ c κs. search rules) close-month-requires (λ c κs. search rules) (λ c. search for-day) (λ c. search for-month) (λ c. search for-none))

@@ -16,5 +16,5 @@ returns c = rw (
   (let at : tie.After-violations = search in at.violations.ensures),
 )
 
-pub close-day-spec : {M : Type 1} → statement M
-close-day-spec = tie.close (tie.spec (λ c κs. (known (search)).bcq) (λ c κs. search rules) (λ c κs. search rules) (λ c κs. search rules) returns)
+pub close_day_spec : {M : Type 1} → statement M
+close_day_spec = tie.close (tie.spec (λ c κs. (known (search)).bcq) (λ c κs. search rules) (λ c κs. search rules) (λ c κs. search rules) returns)

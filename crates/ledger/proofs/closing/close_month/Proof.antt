@@ -22,13 +22,13 @@ day-end-requires : tie.Need-day-end-requires
 day-end-requires c κs = search rules
 
 limit-requires : tie.Need-limit-requires
-limit-requires c κs = let s : tie.Start = search in (bounded s.args.a s.pre.0.1).bcq
+limit-requires c κs = let s : tie.Start = search in (bounded s.args.a s.requires.0.1).bcq
 
 capacity-requires : tie.Need-capacity-requires
 capacity-requires c κs =
     let s : tie.Start = search in
     let at : tie.After-settled = search in
-    (s.pre.1.0, rw (at.settled.ensures, settled-k s.args.a.step) (stepped s.args.a s.pre.0.1 s.pre.0.2).pending.1)
+    (s.requires.1.0, rw (at.settled.ensures, settled-k s.args.a.step) (stepped s.args.a s.requires.0.1 s.requires.0.2).pending.1)
 
 bill-requires : tie.Need-bill-requires
 bill-requires c κs = search (left (search))
@@ -57,5 +57,5 @@ returns c = rw (
   (let day : tie.After-day-end = search in let at : tie.After-limit = search in at.limit.ensures.0),
 )
 
-pub close-month-spec : {M : Type 1} → statement M
-close-month-spec = tie.close (search (rules, tie.spec, violations-requires, cash-at-requires, day-end-requires, limit-requires, capacity-requires, bill-requires, forfeit-requires, month-end-requires, returns))
+pub close_month_spec : {M : Type 1} → statement M
+close_month_spec = tie.close (search (rules, tie.spec, violations-requires, cash-at-requires, day-end-requires, limit-requires, capacity-requires, bill-requires, forfeit-requires, month-end-requires, returns))

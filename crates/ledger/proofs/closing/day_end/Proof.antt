@@ -32,5 +32,5 @@ returns c = rw (
   (let at : tie.After-plus = search in at.plus.ensures.0),
 )
 
-pub day-end-spec : {M : Type 1} → statement M
-day-end-spec = tie.close (search (rules, tie.spec, plus-requires, with-cash-requires, excused-still-requires, days-requires, returns))
+pub day_end_spec : {M : Type 1} → statement M
+day_end_spec = tie.close (search (rules, tie.spec, plus-requires, with-cash-requires, excused-still-requires, days-requires, returns))

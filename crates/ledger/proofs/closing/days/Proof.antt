@@ -15,5 +15,5 @@ none_more n mask z = rw z (omega arith)
 one_more : (n mask : ℕ) → (mask ≡ 0 → ⊥) → n + 1 ≡ n + cond (eqb mask 0) 0 1
 one_more n mask d = rw (ne_eqb mask 0 d)
 
-pub days-spec : {M : Type 1} → statement M
-days-spec = tie.close (tie.spec (λ c. search none_more) (λ c. search rules) (λ c. search one_more))
+pub days_spec : {M : Type 1} → statement M
+days_spec = tie.close (tie.spec (λ c. search none_more) (λ c. search rules) (λ c. search one_more))

@@ -4,6 +4,6 @@ use Rattle.ledger.specs.Closing.{excusedStill}
 use Rattle.ledger.proofs.closing.excused_still.Statement.{statement}
 use Rattle.ledger.proofs.closing.excused_still.Tie as tie
 
-pub excused-still-spec : {M : Type 1} → statement M
+pub excused_still_spec : {M : Type 1} → statement M
 unfolding excusedStill
-excused-still-spec = tie.close (tie.spec (λ c κs. search rules) (λ c. rw (let at : tie.After-ends-excuse = search in at.ends-excuse.ensures)))
+excused_still_spec = tie.close (tie.spec (λ c κs. search rules) (λ c. rw (let at : tie.After-ends-excuse = search in at.ends-excuse.ensures)))

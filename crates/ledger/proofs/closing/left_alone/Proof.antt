@@ -8,5 +8,5 @@ returns : tie.Need-returns
 unfolding leftAlone
 returns c = rw c.quiet.ensures
 
-pub left-alone-spec : {M : Type 1} → statement M
-left-alone-spec = tie.close (search (rules, tie.spec, returns))
+pub left_alone_spec : {M : Type 1} → statement M
+left_alone_spec = tie.close (search (rules, tie.spec, returns))

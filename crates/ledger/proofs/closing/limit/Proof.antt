@@ -4,6 +4,6 @@ use Rattle.ledger.specs.Closing.{limitOf}
 use Rattle.ledger.proofs.closing.limit.Statement.{statement}
 use Rattle.ledger.proofs.closing.limit.Tie as tie
 
-pub limit-spec : {M : Type 1} → statement M
+pub limit_spec : {M : Type 1} → statement M
 unfolding limitOf
-limit-spec = tie.close (tie.spec (λ c κs. search rules) (λ c. search rules))
+limit_spec = tie.close (tie.spec (λ c κs. search rules) (λ c. search rules))

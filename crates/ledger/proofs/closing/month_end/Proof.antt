@@ -24,5 +24,5 @@ less-requires c κs = search rules
 plus-requires : tie.Need-plus-requires
 plus-requires c κs = search rules
 
-pub month-end-spec : {M : Type 1} → statement M
-month-end-spec = tie.close (search (rules, tie.spec, carry-requires, less-requires, plus-requires, returns))
+pub month_end_spec : {M : Type 1} → statement M
+month_end_spec = tie.close (search (rules, tie.spec, carry-requires, less-requires, plus-requires, returns))

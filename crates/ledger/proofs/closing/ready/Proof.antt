@@ -4,6 +4,6 @@ use Rattle.ledger.specs.Closing.{ready}
 use Rattle.ledger.proofs.closing.ready.Statement.{statement}
 use Rattle.ledger.proofs.closing.ready.Tie as tie
 
-pub ready-spec : {M : Type 1} → statement M
+pub ready_spec : {M : Type 1} → statement M
 unfolding ready
-ready-spec = tie.close (tie.spec (λ c. search rules))
+ready_spec = tie.close (tie.spec (λ c. search rules))

@@ -41,5 +41,5 @@ breaks-v8-requires c κs = (known (search)).bcq
 returns : tie.Need-returns
 returns c = search masked
 
-pub violations-spec : {M : Type 1} → statement M
-violations-spec = tie.close (search (rules, tie.spec, breaks-v3-requires, breaks-v4-requires, breaks-v5-requires, breaks-v6-requires, breaks-v8-requires, returns))
+pub violations_spec : {M : Type 1} → statement M
+violations_spec = tie.close (search (rules, tie.spec, breaks-v3-requires, breaks-v4-requires, breaks-v5-requires, breaks-v6-requires, breaks-v8-requires, returns))

@@ -4,7 +4,7 @@ use Rattle.ledger.specs.Closing.{withCash}
 use Rattle.ledger.proofs.closing.with_cash.Statement.{statement}
 use Rattle.ledger.proofs.closing.with_cash.Tie as tie
 
-pub with-cash-spec : {M : Type 1} → statement M
+pub with_cash_spec : {M : Type 1} → statement M
 unfolding withCash
-with-cash-spec =
+with_cash_spec =
     tie.close (tie.spec (λ c κs. search rules) (λ c κs. search rules) (λ c κs. search rules) (λ c κs. search rules) (λ c. cc))

@@ -107,15 +107,15 @@ module _ (s : tie.Start invariant-loop decreases-loop) where
   sixteen = search (rules, length-mapped)
 
   real-date : real s.args.e.date ≡ true
-  real-date = is_real s.args.t1 s.args.e s.pre.0
+  real-date = is_real s.args.t1 s.args.e s.requires.0
 
   in-force : termsInRange s.args.t1.terms ≡ true
   in-force =
-      (begun-ranged s.args.t1 (is-ranged s.args.t1 s.args.e s.pre.0)
-      (is-begun s.args.t1 s.args.e s.pre.0 s.pre.1)).1
+      (begun-ranged s.args.t1 (is-ranged s.args.t1 s.args.e s.requires.0)
+      (is-begun s.args.t1 s.args.e s.requires.0 s.requires.1)).1
 
   ranged : (i : ℕ) → i < 16 → accountInRange (accountAt s.args.t1 i) ≡ true
-  ranged i h = account-ranged s.args.t1 i sixteen h (is-ranged s.args.t1 s.args.e s.pre.0)
+  ranged i h = account-ranged s.args.t1 i sixteen h (is-ranged s.args.t1 s.args.e s.requires.0)
 
 loop-holds : tie.Need-loop-init invariant-loop decreases-loop
 unfolding heldIn
@@ -126,7 +126,7 @@ unfolding nobody noTotals noMonth noToday accountAt
 close-account-requires c κs =
     let s : tie.Start invariant-loop decreases-loop = search in
     let v : tie.At-loop invariant-loop decreases-loop = search in
-    ((real-date s, ranged s v.loop.i (omega arith), in-force s, prices-fit s.args.e (is_right s.args.t1 s.args.e s.pre.0)), c.if1.true)
+    ((real-date s, ranged s v.loop.i (omega arith), in-force s, prices-fit s.args.e (is_right s.args.t1 s.args.e s.requires.0)), c.if1.true)
 
 loop-again : tie.Need-loop-preserved invariant-loop decreases-loop
 unfolding nobody noTotals noMonth noToday accountAt
@@ -136,12 +136,12 @@ loop-again c =
     let n : length s.args.t1.accounts ≡ 16 = sixteen s in
     let h : v.loop.i < 16 = omega arith in
     let f = ranged s v.loop.i h in
-    let ended = v.loop.inv.5 in
-    let read = v.loop.inv.6 in
+    let ended = v.loop.invariant.5 in
+    let read = v.loop.invariant.6 in
     let further : v.loop.i + 1 ≤ 16 = omega arith in
     ⊎_elim
-    (λ w. (further, search open-stored, search open-reported, (let at : tie.After-ready invariant-loop decreases-loop = search in open-complete s.args.t1 s.args.e v.loop.i n h v.loop.complete _ _ _ c.if1.complete v.loop.inv.3 at.ready.ensures ended read (search)), (let closed : tie.After-close-account invariant-loop decreases-loop = search in let day : tie.After-account-in-range invariant-loop decreases-loop = search in let end : tie.After-account-in-range2 invariant-loop decreases-loop = search in open_stays s.args.t1 s.args.e v.loop.i n h v.loop.fits _ _ c.if1.ranges _ (search) v.loop.inv.4 day.account-in-range.ensures end.account-in-range2.ensures closed.close-account.ensures), v.loop.inv.5, v.loop.inv.6))
-    (λ w. (further, search shut-stored, search shut-reported, search shut-complete, search shut-stays, v.loop.inv.5, v.loop.inv.6))
+    (λ w. (further, search open-stored, search open-reported, (let at : tie.After-ready invariant-loop decreases-loop = search in open-complete s.args.t1 s.args.e v.loop.i n h v.loop.complete _ _ _ c.if1.complete v.loop.invariant.3 at.ready.ensures ended read (search)), (let closed : tie.After-close-account invariant-loop decreases-loop = search in let day : tie.After-account-in-range invariant-loop decreases-loop = search in let end : tie.After-account-in-range2 invariant-loop decreases-loop = search in open_stays s.args.t1 s.args.e v.loop.i n h v.loop.fits _ _ c.if1.ranges _ (search) v.loop.invariant.4 day.account-in-range.ensures end.account-in-range2.ensures closed.close-account.ensures), v.loop.invariant.5, v.loop.invariant.6))
+    (λ w. (further, search shut-stored, search shut-reported, search shut-complete, search shut-stays, v.loop.invariant.5, v.loop.invariant.6))
     c.if1.branch
 
 returns : tie.Need-returns invariant-loop decreases-loop
@@ -154,12 +154,12 @@ returns c =
     let i = v.loop.i in
     let n : length l.accounts ≡ 16 = sixteen s in (
       (
-        rw (v.loop.inv.1, c.still-held.ensures, (let at : tie.After-day-after invariant-loop decreases-loop = search in at.day-after.ensures), filled-end (afterClosing l.is_new l.terms e) l.accounts l.accounts i (omega (arith, n)) (omega (arith, n))),
-        v.loop.inv.2 ∙ filled-end (reportOf l.is_new l.terms e) l.accounts (replicate 16 quiet) i (omega (arith, n)) (omega arith),
+        rw (v.loop.invariant.1, c.still-held.ensures, (let at : tie.After-day-after invariant-loop decreases-loop = search in at.day-after.ensures), filled-end (afterClosing l.is_new l.terms e) l.accounts l.accounts i (omega (arith, n)) (omega (arith, n))),
+        v.loop.invariant.2 ∙ filled-end (reportOf l.is_new l.terms e) l.accounts (replicate 16 quiet) i (omega (arith, n)) (omega arith),
       ),
       (
-        sym (every-end (Ready l e) l.accounts i v.loop.complete (omega (arith, n))) ∙ v.loop.inv.3,
-        sym (every-end (staysInRange l.is_new l.terms e) l.accounts i v.loop.fits (omega (arith, n))) ∙ v.loop.inv.4,
+        sym (every-end (Ready l e) l.accounts i v.loop.complete (omega (arith, n))) ∙ v.loop.invariant.3,
+        sym (every-end (staysInRange l.is_new l.terms e) l.accounts i v.loop.fits (omega (arith, n))) ∙ v.loop.invariant.4,
       ),
     )
 
@@ -196,7 +196,7 @@ add-i c = search rules
 loop-less : tie.Need-loop-smaller invariant-loop decreases-loop
 loop-less c = search rules
 
-pub close-all-spec : {M : Type 1} → statement M
-close-all-spec {M = M} =
+pub close_all_spec : {M : Type 1} → statement M
+close_all_spec {M = M} =
     tie.close
     (search (rules, tie.spec {M = M} invariant-loop decreases-loop, last-of-month-requires, on-measurement-day-requires, loop-holds, mul-a, element-copy-out-a, close-account-requires, mul-account, element-set-from-account, mul-reports, add-i, loop-less, loop-again, day-after-requires, still-held-requires, returns))

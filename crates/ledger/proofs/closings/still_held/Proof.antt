@@ -19,5 +19,5 @@ module _ (e : Entry) (h : Holidays) where
   unfolding holidaysAfter
   day k = cc (ne_eqb e.kind 9 k)
 
-pub still-held-spec : {M : Type 1} → statement M
-still-held-spec = tie.close (tie.spec (λ c κs. search rules) (λ c κs. search rules) (λ c. search month) (λ c. search day))
+pub still_held_spec : {M : Type 1} → statement M
+still_held_spec = tie.close (tie.spec (λ c κs. search rules) (λ c κs. search rules) (λ c. search month) (λ c. search day))

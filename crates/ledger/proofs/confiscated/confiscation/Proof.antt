@@ -20,5 +20,5 @@ judged a b e fits n₁ n₂ n₃ q₃ q₂ q₁ r p = cc
 returns : tie.Need-returns
 returns c = search judged
 
-pub confiscation-spec : {M : Type 1} → statement M
-confiscation-spec = tie.close (search (rules, tie.spec, returns))
+pub confiscation_spec : {M : Type 1} → statement M
+confiscation_spec = tie.close (search (rules, tie.spec, returns))

@@ -5,6 +5,6 @@ use Rattle.ledger.specs.State.{withToday}
 use Rattle.ledger.proofs.confiscated.with_confiscation.Statement.{statement}
 use Rattle.ledger.proofs.confiscated.with_confiscation.Tie as tie
 
-pub with-confiscation-spec : {M : Type 1} → statement M
+pub with_confiscation_spec : {M : Type 1} → statement M
 unfolding afterConfiscation confiscatedToday withToday
-with-confiscation-spec = tie.close (tie.spec (λ c. search rules))
+with_confiscation_spec = tie.close (tie.spec (λ c. search rules))

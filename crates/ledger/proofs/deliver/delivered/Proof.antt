@@ -19,8 +19,8 @@ returns c = rw (
   (let at : tie.After-share-of = search in at.share-of.ensures.0),
 )
 
-pub delivered-spec : {M : Type 1} → statement M
-delivered-spec =
+pub delivered_spec : {M : Type 1} → statement M
+delivered_spec =
     tie.close
     (tie.spec
     (λ c κs. omega (arith, known (search)))

@@ -24,8 +24,8 @@ judged t a b e amount fits n₁ n₂ n₃ q₃ q₂ q₁ r q p = cc
 retained-requires : tie.Need-retained-requires
 retained-requires c κs =
     let s : tie.Start = search in
-    let w = deliver-fits s.args.e s.pre.0 s.pre.1 in
-    ((terms-bounds s.args.t s.pre.3).retainage, w.0, w.1)
+    let w = deliver-fits s.args.e s.requires.0 s.requires.1 in
+    ((terms-bounds s.args.t s.requires.3).retainage, w.0, w.1)
 
 returns : tie.Need-returns
 returns c = search judged
@@ -33,5 +33,5 @@ returns c = search judged
 delivered-requires : tie.Need-delivered-requires
 delivered-requires c κs = search rules
 
-pub delivery-spec : {M : Type 1} → statement M
-delivery-spec = tie.close (search (rules, tie.spec, delivered-requires, retained-requires, returns))
+pub delivery_spec : {M : Type 1} → statement M
+delivery_spec = tie.close (search (rules, tie.spec, delivered-requires, retained-requires, returns))

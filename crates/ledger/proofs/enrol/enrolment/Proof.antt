@@ -26,8 +26,8 @@ judged t a b e only wants stays above fits n₁ n₂ n₃ n₄ q₄ q₃ q₂ q�
 new-account-requires : tie.Need-new-account-requires
 new-account-requires c κs =
     let s : tie.Start = search in
-    let w = enrol-fits s.args.e s.pre.0 s.pre.1 in
-    (s.pre.3, w.0, w.1)
+    let w = enrol-fits s.args.e s.requires.0 s.requires.1 in
+    (s.requires.3, w.0, w.1)
 
 returns : tie.Need-returns
 returns c = search judged
@@ -35,5 +35,5 @@ returns c = search judged
 opening-too-high-requires : tie.Need-opening-too-high-requires
 opening-too-high-requires c κs = search rules
 
-pub enrolment-spec : {M : Type 1} → statement M
-enrolment-spec = tie.close (search (rules, tie.spec, opening-too-high-requires, new-account-requires, returns))
+pub enrolment_spec : {M : Type 1} → statement M
+enrolment_spec = tie.close (search (rules, tie.spec, opening-too-high-requires, new-account-requires, returns))

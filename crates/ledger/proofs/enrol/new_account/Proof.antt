@@ -26,5 +26,5 @@ capacity-requires c κs = search rules
 of-requires : tie.Need-of-requires
 of-requires c κs = search rules
 
-pub new-account-spec : {M : Type 1} → statement M
-new-account-spec = tie.close (search (rules, tie.spec, first-requires, capacity-requires, of-requires, returns))
+pub new_account_spec : {M : Type 1} → statement M
+new_account_spec = tie.close (search (rules, tie.spec, first-requires, capacity-requires, of-requires, returns))

@@ -13,5 +13,5 @@ returns : tie.Need-returns
 unfolding byte_at
 returns c = let s : tie.Start = search in (refl, omega (arith, c.shared-slice-known.given s.args.at))
 
-pub byte-spec : {M : Type 1} → statement M
-byte-spec = tie.close (tie.spec (λ c. search rules) cast-result returns)
+pub byte_spec : {M : Type 1} → statement M
+byte_spec = tie.close (tie.spec (λ c. search rules) cast-result returns)

@@ -8,8 +8,8 @@ returns : tie.Need-returns
 unfolding entry_of halfAt
 returns c = cc
 
-pub date-spec : {M : Type 1} → statement M
-date-spec =
+pub date_spec : {M : Type 1} → statement M
+date_spec =
     tie.close
     (tie.spec
     (λ c κs. search rules)

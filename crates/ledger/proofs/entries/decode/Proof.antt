@@ -8,8 +8,8 @@ returns : tie.Need-returns
 unfolding entry_of
 returns c = cc
 
-pub decode-spec : {M : Type 1} → statement M
-decode-spec =
+pub decode_spec : {M : Type 1} → statement M
+decode_spec =
     tie.close
     (tie.spec
     (λ c κs. search rules)

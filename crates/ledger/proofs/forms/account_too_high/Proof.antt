@@ -8,5 +8,5 @@ returns : tie.Need-returns
 unfolding accountTooHigh
 returns c = search rules
 
-pub account-too-high-spec : {M : Type 1} → statement M
-account-too-high-spec = tie.close (tie.spec returns)
+pub account_too_high_spec : {M : Type 1} → statement M
+account_too_high_spec = tie.close (tie.spec returns)

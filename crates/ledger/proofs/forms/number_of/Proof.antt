@@ -9,5 +9,5 @@ returns : tie.Need-returns
 unfolding entryNumber entryChecks fieldChecks verdict
 returns c = cc
 
-pub number-of-spec : {M : Type 1} → statement M
-number-of-spec = tie.close (search (rules, tie.spec, returns))
+pub number_of_spec : {M : Type 1} → statement M
+number_of_spec = tie.close (search (rules, tie.spec, returns))

@@ -4,6 +4,6 @@ use Rattle.ledger.specs.Forms.{someUnits}
 use Rattle.ledger.proofs.forms.some_units.Statement.{statement}
 use Rattle.ledger.proofs.forms.some_units.Tie as tie
 
-pub some-units-spec : {M : Type 1} → statement M
+pub some_units_spec : {M : Type 1} → statement M
 unfolding someUnits
-some-units-spec = tie.close (tie.spec (λ c. search rules))
+some_units_spec = tie.close (tie.spec (λ c. search rules))

@@ -8,5 +8,5 @@ returns : tie.Need-returns
 unfolding unusedSet
 returns c = search rules
 
-pub unused-set-spec : {M : Type 1} → statement M
-unused-set-spec = tie.close (tie.spec returns)
+pub unused_set_spec : {M : Type 1} → statement M
+unused_set_spec = tie.close (tie.spec returns)

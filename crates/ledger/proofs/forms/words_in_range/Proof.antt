@@ -6,9 +6,9 @@ use Rattle.ledger.specs.Forms.{wordsInRange}
 use Rattle.ledger.proofs.forms.words_in_range.Statement.{statement}
 use Rattle.ledger.proofs.forms.words_in_range.Tie as tie
 
-pub words-in-range-spec : {M : Type 1} → statement M
+pub words_in_range_spec : {M : Type 1} → statement M
 unfolding wordsInRange lookup
-words-in-range-spec =
+words_in_range_spec =
     tie.close
     (tie.spec
     (λ c κs. search rules)

@@ -4,6 +4,6 @@ use Rattle.ledger.specs.Forms.{wrongTransfer}
 use Rattle.ledger.proofs.forms.wrong_transfer.Statement.{statement}
 use Rattle.ledger.proofs.forms.wrong_transfer.Tie as tie
 
-pub wrong-transfer-spec : {M : Type 1} → statement M
+pub wrong_transfer_spec : {M : Type 1} → statement M
 unfolding wrongTransfer
-wrong-transfer-spec = tie.close (tie.spec (λ c. search rules))
+wrong_transfer_spec = tie.close (tie.spec (λ c. search rules))

@@ -29,8 +29,8 @@ module _ (l : Ledger) (e : Entry) (d : Date) (n : ℕ) (is : d ≡ dayNamed e) (
   unfolding postHoliday settle refused holding withHolidays heldIn
   holds r h q p z = cc (number_is, is, eq-eqb n 0 z)
 
-pub post-holiday-spec : {M : Type 1} → statement M
-post-holiday-spec =
+pub post_holiday_spec : {M : Type 1} → statement M
+post_holiday_spec =
     tie.close
     (tie.spec (search rules) (search rules) (search rules)
     (λ c. let d : tie.After-day-named = search in let n : tie.After-refusal = search in refuses _ _ _ _ d.day-named.ensures (n.refusal.ensures _ refl refl) _ c.answered.ensures (search))

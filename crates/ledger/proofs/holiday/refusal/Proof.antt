@@ -48,8 +48,8 @@ is-a-day is_real late d q z = sym q ∙ and_left is_real late (not-false (is_rea
 has-place : (count : ℕ) (known : Bool) → leb 16 count || known ≡ false → count < 16
 has-place count known y = leb-false 16 count (or_left (leb 16 count) known y)
 
-pub refusal-spec : {M : Type 1} → statement M
-refusal-spec =
+pub refusal_spec : {M : Type 1} → statement M
+refusal_spec =
     tie.close
     (tie.spec (search rules) (search rules) (λ c l t h. search no-day) (search rules) (λ c l t h. search no_room) (λ c κs. search has-place) (λ c κs. search is-a-day)
     (λ c l t h. search none_left) (λ c l t h. search one_left))

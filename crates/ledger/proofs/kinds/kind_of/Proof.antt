@@ -4,9 +4,9 @@ use Rattle.ledger.specs.Kinds.{lookup, kind_of}
 use Rattle.ledger.proofs.kinds.kind_of.Statement.{statement}
 use Rattle.ledger.proofs.kinds.kind_of.Tie as tie
 
-pub kind-of-spec : {M : Type 1} → statement M
+pub kind_of_spec : {M : Type 1} → statement M
 unfolding kind_of lookup
-kind-of-spec =
+kind_of_spec =
     tie.close
     (tie.spec
     (search)

@@ -24,5 +24,5 @@ remeasured-requires c κs = search (rules, measure-fits)
 returns : tie.Need-returns
 returns c = search judged
 
-pub measurement-spec : {M : Type 1} → statement M
-measurement-spec = tie.close (search (rules, tie.spec, remeasured-requires, returns))
+pub measurement_spec : {M : Type 1} → statement M
+measurement_spec = tie.close (search (rules, tie.spec, remeasured-requires, returns))

@@ -6,7 +6,7 @@ use Rattle.ledger.specs.State.{withMeasure, withMonth}
 use Rattle.ledger.proofs.measure.remeasured.Statement.{statement}
 use Rattle.ledger.proofs.measure.remeasured.Tie as tie
 
-pub remeasured-spec : {M : Type 1} → statement M
+pub remeasured_spec : {M : Type 1} → statement M
 unfolding remeasured withMeasure withMonth
-remeasured-spec =
-    tie.close (tie.spec (λ c κs. let s : tie.Start = search in omega (arith, bounded s.args.a s.pre.0)) (λ c. rw c.measured.ensures))
+remeasured_spec =
+    tie.close (tie.spec (λ c κs. let s : tie.Start = search in omega (arith, bounded s.args.a s.requires.0)) (λ c. rw c.measured.ensures))

@@ -17,5 +17,5 @@ returns-2 c =
     let shut : tie.Else1 = search in
     (rw (c.nothing.ensures, nothing-value, shut.if1.left), rw c.nothing.ensures (omega (arith, size-nothing)))
 
-pub open-bank-spec : {M : Type 1} → statement M
-open-bank-spec = tie.close (search (rules, tie.spec, returns, returns-2))
+pub open_bank_spec : {M : Type 1} → statement M
+open_bank_spec = tie.close (search (rules, tie.spec, returns, returns-2))

@@ -33,7 +33,7 @@ unfolding nobody noTotals noMonth noToday accountAt
 one-bank c =
     let s : tie.Start invariant-loop decreases-loop = search in
     let v : tie.At-loop invariant-loop decreases-loop = search in
-    omega (arith, c.open-bank.ensures.1, (bounded (accountAt s.args.t1 v.loop.i) (account-ranged s.args.t1 v.loop.i (sixteen s) (omega arith) s.pre)).bank)
+    omega (arith, c.open-bank.ensures.1, (bounded (accountAt s.args.t1 v.loop.i) (account-ranged s.args.t1 v.loop.i (sixteen s) (omega arith) s.requires)).bank)
 
 loop-holds : tie.Need-loop-init invariant-loop decreases-loop
 loop-holds c =
@@ -48,7 +48,7 @@ loop-again c =
     let b : tie.After-open-bank invariant-loop decreases-loop = search in (
       omega arith,
       rw (c.plus.ensures.0, sum-value v.loop.figure b.open-bank.result, b.open-bank.ensures.0)
-          (sym (banks-next s.args.t1.accounts v.loop.i nobody v.loop.figure.0 (omega (arith, sixteen s))) ∙ v.loop.inv.1),
+          (sym (banks-next s.args.t1.accounts v.loop.i nobody v.loop.figure.0 (omega (arith, sixteen s))) ∙ v.loop.invariant.1),
       omega (arith, one-bank b),
     )
 
@@ -56,10 +56,10 @@ returns : tie.Need-returns invariant-loop decreases-loop
 returns c =
     let s : tie.Start invariant-loop decreases-loop = search in
     let v : tie.At-loop invariant-loop decreases-loop = search in
-    sym (banks-end s.args.t1.accounts v.loop.i v.loop.figure.0 (omega (arith, sixteen s))) ∙ v.loop.inv.1
+    sym (banks-end s.args.t1.accounts v.loop.i v.loop.figure.0 (omega (arith, sixteen s))) ∙ v.loop.invariant.1
 
-pub open-banks-spec : {M : Type 1} → statement M
-open-banks-spec =
+pub open_banks_spec : {M : Type 1} → statement M
+open_banks_spec =
     tie.close
     (tie.spec
     invariant-loop

@@ -45,5 +45,5 @@ returns c l f b t i d h = search wrong
 returns-2 : tie.Need-returns-2
 returns-2 c l f b t i d h = search judged
 
-pub admission-spec : {M : Type 1} → statement M
-admission-spec = tie.close (search (rules, tie.spec, wrong-day-requires, returns, returns-2))
+pub admission_spec : {M : Type 1} → statement M
+admission_spec = tie.close (search (rules, tie.spec, wrong-day-requires, returns, returns-2))

@@ -6,9 +6,9 @@ use Rattle.ledger.specs.Posting.{changeOf}
 use Rattle.ledger.proofs.postings.change.Statement.{statement}
 use Rattle.ledger.proofs.postings.change.Tie as tie
 
-pub change-spec : {M : Type 1} → statement M
+pub change_spec : {M : Type 1} → statement M
 unfolding changeOf lookup
-change-spec =
+change_spec =
     tie.close
     (tie.spec
     (λ c κs. search rules)

@@ -11,15 +11,15 @@ use Rattle.ledger.proofs.postings.post_several.Tie as tie
 post-closing-requires : tie.Need-post-closing-requires
 post-closing-requires c κs =
     let s : tie.Start = search in
-    (s.pre, ⊎_elim (λ k z. omega (arith, z, k.keys3)) (λ k z. omega (arith, z, k.keys4)) c.match.branch)
+    (s.requires, ⊎_elim (λ k z. omega (arith, z, k.keys3)) (λ k z. omega (arith, z, k.keys4)) c.match.branch)
 
 returns-5 : tie.Need-returns-5
 unfolding postSeveral lookup
 returns-5 c = ⊎_elim (λ k. search at) (λ k. search at) (let at : tie.At-match-branch = search in at.match.came)
 
-pub post-several-spec : {M : Type 1} → statement M
+pub post_several_spec : {M : Type 1} → statement M
 unfolding postSeveral lookup
-post-several-spec =
+post_several_spec =
     tie.close
     (tie.spec
     (λ c κs. search rules)

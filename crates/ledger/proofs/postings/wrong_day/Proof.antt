@@ -6,9 +6,9 @@ use Rattle.ledger.specs.Kinds.{lookup}
 use Rattle.ledger.proofs.postings.wrong_day.Statement.{statement}
 use Rattle.ledger.proofs.postings.wrong_day.Tie as tie
 
-pub wrong-day-spec : {M : Type 1} → statement M
+pub wrong_day_spec : {M : Type 1} → statement M
 unfolding wrongDay lookup
-wrong-day-spec =
+wrong_day_spec =
     tie.close
     (tie.spec
     (search)

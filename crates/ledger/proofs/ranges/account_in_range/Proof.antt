@@ -13,5 +13,5 @@ returns c = rw (
   (let at : tie.After-within = search in at.within.ensures),
 )
 
-pub account-in-range-spec : {M : Type 1} → statement M
-account-in-range-spec = tie.close (search (rules, tie.spec, returns))
+pub account_in_range_spec : {M : Type 1} → statement M
+account_in_range_spec = tie.close (search (rules, tie.spec, returns))

@@ -31,14 +31,14 @@ loop-again c =
     let v : tie.At-loop invariant-loop decreases-loop = search in (
       omega arith,
       rw (let at : tie.After-account-in-range invariant-loop decreases-loop = search in at.account-in-range.ensures)
-          (sym (every-next accountInRange s.args.t1.accounts v.loop.i nobody v.loop.ok (omega (arith, sixteen s))) ∙ v.loop.inv.1),
+          (sym (every-next accountInRange s.args.t1.accounts v.loop.i nobody v.loop.ok (omega (arith, sixteen s))) ∙ v.loop.invariant.1),
     )
 
 returns : tie.Need-returns invariant-loop decreases-loop
 returns c =
     let s : tie.Start invariant-loop decreases-loop = search in
     let v : tie.At-loop invariant-loop decreases-loop = search in
-    sym (every-end accountInRange s.args.t1.accounts v.loop.i v.loop.ok (omega (arith, sixteen s))) ∙ v.loop.inv.1
+    sym (every-end accountInRange s.args.t1.accounts v.loop.i v.loop.ok (omega (arith, sixteen s))) ∙ v.loop.invariant.1
 
 mul-a : tie.Need-overflow-mul-a invariant-loop decreases-loop
 mul-a c = search rules
@@ -52,5 +52,5 @@ add-i c = search rules
 loop-less : tie.Need-loop-smaller invariant-loop decreases-loop
 loop-less c = search rules
 
-pub in-range-spec : {M : Type 1} → statement M
-in-range-spec {M = M} = tie.close (search (rules, tie.spec {M = M} invariant-loop decreases-loop, loop-holds, mul-a, element-copy-out-a, add-i, loop-less, loop-again, returns))
+pub in_range_spec : {M : Type 1} → statement M
+in_range_spec {M = M} = tie.close (search (rules, tie.spec {M = M} invariant-loop decreases-loop, loop-holds, mul-a, element-copy-out-a, add-i, loop-less, loop-again, returns))

@@ -4,6 +4,6 @@ use Rattle.ledger.specs.Ranges.{stepInRange}
 use Rattle.ledger.proofs.ranges.step_in_range.Statement.{statement}
 use Rattle.ledger.proofs.ranges.step_in_range.Tie as tie
 
-pub step-in-range-spec : {M : Type 1} → statement M
+pub step_in_range_spec : {M : Type 1} → statement M
 unfolding stepInRange
-step-in-range-spec = tie.close (tie.spec (λ c. search rules))
+step_in_range_spec = tie.close (tie.spec (λ c. search rules))

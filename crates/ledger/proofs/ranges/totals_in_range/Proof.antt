@@ -8,5 +8,5 @@ returns : tie.Need-returns
 unfolding totalsInRange
 returns c = let net : tie.After-within = search in rw net.within.ensures
 
-pub totals-in-range-spec : {M : Type 1} → statement M
-totals-in-range-spec = tie.close (search (rules, tie.spec, returns))
+pub totals_in_range_spec : {M : Type 1} → statement M
+totals_in_range_spec = tie.close (search (rules, tie.spec, returns))

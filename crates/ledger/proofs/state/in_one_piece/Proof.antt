@@ -18,8 +18,8 @@ either : {A : Type 0} (b : Bool) (a past : A) → get_or (a ∷ a ∷ []) (bool_
 either true a past = refl
 either false a past = refl
 
-pub in-one-piece-spec : {M : Type 1} → statement M
-in-one-piece-spec =
+pub in_one_piece_spec : {M : Type 1} → statement M
+in_one_piece_spec =
     tie.close
     (tie.spec
     (search rules)

@@ -4,6 +4,6 @@ use Rattle.ledger.specs.State.{noMonth}
 use Rattle.ledger.proofs.state.no_month.Statement.{statement}
 use Rattle.ledger.proofs.state.no_month.Tie as tie
 
-pub no-month-spec : {M : Type 1} → statement M
+pub no_month_spec : {M : Type 1} → statement M
 unfolding noMonth
-no-month-spec = tie.close (tie.spec (search rules) (λ c. rw c.no-totals.ensures))
+no_month_spec = tie.close (tie.spec (search rules) (λ c. rw c.no-totals.ensures))

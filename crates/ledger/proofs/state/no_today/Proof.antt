@@ -4,6 +4,6 @@ use Rattle.ledger.specs.State.{noToday}
 use Rattle.ledger.proofs.state.no_today.Statement.{statement}
 use Rattle.ledger.proofs.state.no_today.Tie as tie
 
-pub no-today-spec : {M : Type 1} → statement M
+pub no_today_spec : {M : Type 1} → statement M
 unfolding noToday
-no-today-spec = tie.close (tie.spec (λ c. search rules))
+no_today_spec = tie.close (tie.spec (λ c. search rules))

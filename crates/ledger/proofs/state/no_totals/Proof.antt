@@ -4,6 +4,6 @@ use Rattle.ledger.specs.State.{noTotals}
 use Rattle.ledger.proofs.state.no_totals.Statement.{statement}
 use Rattle.ledger.proofs.state.no_totals.Tie as tie
 
-pub no-totals-spec : {M : Type 1} → statement M
+pub no_totals_spec : {M : Type 1} → statement M
 unfolding noTotals
-no-totals-spec = tie.close (tie.spec (λ c. search rules))
+no_totals_spec = tie.close (tie.spec (λ c. search rules))

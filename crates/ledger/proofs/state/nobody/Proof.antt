@@ -8,5 +8,5 @@ returns : tie.Need-returns
 unfolding nobody
 returns c = rw ((let at : tie.After-no-today = search in at.no-today.ensures), (let at : tie.After-no-month = search in at.no-month.ensures))
 
-pub nobody-spec : {M : Type 1} → statement M
-nobody-spec = tie.close (search (rules, tie.spec, returns))
+pub nobody_spec : {M : Type 1} → statement M
+nobody_spec = tie.close (search (rules, tie.spec, returns))

@@ -4,6 +4,6 @@ use Rattle.ledger.specs.State.{withAccount}
 use Rattle.ledger.proofs.state.with_account.Statement.{statement}
 use Rattle.ledger.proofs.state.with_account.Tie as tie
 
-pub with-account-spec : {M : Type 1} → statement M
+pub with_account_spec : {M : Type 1} → statement M
 unfolding withAccount
-with-account-spec = tie.close (tie.spec (λ c. search rules) (λ c. search rules) (λ c. search rules))
+with_account_spec = tie.close (tie.spec (λ c. search rules) (λ c. search rules) (λ c. search rules))

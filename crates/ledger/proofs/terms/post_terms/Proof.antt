@@ -25,5 +25,5 @@ terms-next-requires c κs = search rules
 returns : tie.Need-returns
 returns c = search judged
 
-pub post-terms-spec : {M : Type 1} → statement M
-post-terms-spec = tie.close (search (rules, tie.spec, terms-next-requires, returns))
+pub post_terms_spec : {M : Type 1} → statement M
+post_terms_spec = tie.close (search (rules, tie.spec, terms-next-requires, returns))

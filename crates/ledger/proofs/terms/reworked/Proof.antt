@@ -6,7 +6,7 @@ use Rattle.ledger.proofs.terms.reworked.Statement.{statement}
 use Rattle.ledger.proofs.terms.reworked.Tie as tie
 
 capacity-requires : tie.Need-capacity-requires
-capacity-requires c κs = let s : tie.Start = search in (s.pre.0, (stepped s.args.a s.pre.1 c.if1.true).k.1)
+capacity-requires c κs = let s : tie.Start = search in (s.requires.0, (stepped s.args.a s.requires.1 c.if1.true).k.1)
 
 returns : tie.Need-returns
 unfolding reworked withCapacity
@@ -16,5 +16,5 @@ returns-2 : tie.Need-returns-2
 unfolding reworked withCapacity
 returns-2 c = rw c.if1.false
 
-pub reworked-spec : {M : Type 1} → statement M
-reworked-spec = tie.close (tie.spec capacity-requires returns returns-2)
+pub reworked_spec : {M : Type 1} → statement M
+reworked_spec = tie.close (tie.spec capacity-requires returns returns-2)

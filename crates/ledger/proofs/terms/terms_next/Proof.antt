@@ -31,8 +31,8 @@ reworked-requires c κs =
     let s : tie.Start invariant-loop decreases-loop = search in
     let v : tie.At-loop invariant-loop decreases-loop = search in
     let t : tie.After-terms invariant-loop decreases-loop = search in (
-      rw t.terms.ensures (terms-fit s.args.e (is_right s.args.t1 s.args.e s.pre.0) s.pre.1),
-      account-ranged s.args.t1 v.loop.i (sixteen s) (omega arith) (is-ranged s.args.t1 s.args.e s.pre.0),
+      rw t.terms.ensures (terms-fit s.args.e (is_right s.args.t1 s.args.e s.requires.0) s.requires.1),
+      account-ranged s.args.t1 v.loop.i (sixteen s) (omega arith) (is-ranged s.args.t1 s.args.e s.requires.0),
     )
 
 loop-again : tie.Need-loop-preserved invariant-loop decreases-loop
@@ -43,7 +43,7 @@ loop-again c =
     let t : tie.After-terms invariant-loop decreases-loop = search in
     let xs = s.args.t1.accounts in (
       omega arith,
-      rw (v.loop.inv.1, (let at : tie.After-reworked invariant-loop decreases-loop = search in at.reworked.ensures), filled_next (reworked t.terms.result) xs xs v.loop.i nobody (omega arith) (omega (arith, sixteen s))),
+      rw (v.loop.invariant.1, (let at : tie.After-reworked invariant-loop decreases-loop = search in at.reworked.ensures), filled_next (reworked t.terms.result) xs xs v.loop.i nobody (omega arith) (omega (arith, sixteen s))),
     )
 
 returns : tie.Need-returns invariant-loop decreases-loop
@@ -53,7 +53,7 @@ returns c =
     let v : tie.At-loop invariant-loop decreases-loop = search in
     let t : tie.After-terms invariant-loop decreases-loop = search in
     let xs = s.args.t1.accounts in
-    rw (v.loop.inv.1, filled-end (reworked t.terms.result) xs xs v.loop.i (omega (arith, sixteen s)) (omega (arith, sixteen s)), t.terms.ensures)
+    rw (v.loop.invariant.1, filled-end (reworked t.terms.result) xs xs v.loop.i (omega (arith, sixteen s)) (omega (arith, sixteen s)), t.terms.ensures)
 
 mul-a : tie.Need-overflow-mul-a invariant-loop decreases-loop
 mul-a c = search rules
@@ -73,7 +73,7 @@ add-i c = search rules
 loop-less : tie.Need-loop-smaller invariant-loop decreases-loop
 loop-less c = search rules
 
-pub terms-next-spec : {M : Type 1} → statement M
-terms-next-spec {M = M} =
+pub terms_next_spec : {M : Type 1} → statement M
+terms_next_spec {M = M} =
     tie.close
     (search (rules, tie.spec {M = M} invariant-loop decreases-loop, loop-holds, reworked-requires, mul-a, element-copy-out-a, mul-b, element-set-from-b, add-i, loop-less, loop-again, returns))

@@ -17,6 +17,6 @@ returns-2 : tie.Need-returns-2
 unfolding booked withMonth withTotals withTrade
 returns-2 c = rw ((let at : tie.After-plus2 = search in at.plus2.ensures), (let at : tie.Else1 = search in at.if1.left))
 
-pub booked-spec : {M : Type 1} → statement M
-booked-spec =
+pub booked_spec : {M : Type 1} → statement M
+booked_spec =
     tie.close (tie.spec (λ c κs. omega (arith, known (search))) returns (λ c κs. omega (arith, known (search))) returns-2)

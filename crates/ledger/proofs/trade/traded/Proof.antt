@@ -27,11 +27,11 @@ asked : (c : tie.After-booked) → (size c.booked.result.bank ≤ 100000000000) 
 unfolding booked withMonth withTotals
 asked c =
     let s : tie.Start = search in
-    let known = bounded s.args.a s.pre.0 in
+    let known = bounded s.args.a s.requires.0 in
     rw c.booked.ensures (known.bank, known.bcq)
 
-pub traded-spec : {M : Type 1} → statement M
-traded-spec =
+pub traded_spec : {M : Type 1} → statement M
+traded_spec =
     tie.close
     (tie.spec
     (search rules)

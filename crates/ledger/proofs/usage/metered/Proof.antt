@@ -5,6 +5,6 @@ use Rattle.ledger.specs.Usage.{metered, withUsage}
 use Rattle.ledger.proofs.usage.metered.Statement.{statement}
 use Rattle.ledger.proofs.usage.metered.Tie as tie
 
-pub metered-spec : {M : Type 1} → statement M
+pub metered_spec : {M : Type 1} → statement M
 unfolding metered withMonth withUsage
-metered-spec = tie.close (tie.spec (λ c. search rules))
+metered_spec = tie.close (tie.spec (λ c. search rules))

@@ -54,17 +54,17 @@ loop-again c =
     let z = (get_or (get_or sheet (k / 12) []) (k % 12) (record { 0 = pos 0 })).0 in
     let same : to_z w64 (of_z w64 z) ≡ z = search rules in
     let cell = ap (λ (u : Units). u.0) (cell-at sheet (k / 12) (k % 12)) in
-    (omega arith, simp length-set (omega arith), ap (set l.loop.cells k) (same ∙ sym cell) ∙ cell-more sheet s.args.cells.now l.loop.cells k l.loop.inv.2 (omega arith) (omega arith))
+    (omega arith, simp length-set (omega arith), ap (set l.loop.cells k) (same ∙ sym cell) ∙ cell-more sheet s.args.cells.now l.loop.cells k l.loop.invariant.2 (omega arith) (omega arith))
 
 returns : tie.Need-returns invariant-loop decreases-loop
 returns c =
     let s : tie.Start invariant-loop decreases-loop = search in
     let l : tie.At-loop invariant-loop decreases-loop = search in
     let d = s.args.cells.now in
-    l.loop.inv.2 ∙ ap (paste d 0 (cells_of s.args.t1)) (le_antisymm l.loop.inv.0 c.loop-test.false) ∙ cells-all s.args.t1 d
+    l.loop.invariant.2 ∙ ap (paste d 0 (cells_of s.args.t1)) (le_antisymm l.loop.invariant.0 c.loop-test.false) ∙ cells-all s.args.t1 d
 
-pub put-cells-spec : {M : Type 1} → statement M
-put-cells-spec =
+pub put_cells_spec : {M : Type 1} → statement M
+put_cells_spec =
     tie.close
     (tie.spec
     invariant-loop decreases-loop loop-holds

@@ -27,10 +27,10 @@ invariant-loop places partners accounts₀ k₀ accounts k = (k ≤ 16) × (acco
 abbrev decreases-loop : tie.decreases-loop
 decreases-loop places partners accounts₀ k₀ accounts k = 16 - k
 
-pub listed-spec : {M : Type 1} → statement M
-listed-spec =
+pub listed_spec : {M : Type 1} → statement M
+listed_spec =
     tie.close
     (tie.spec invariant-loop decreases-loop
     (λ c. search rules) (λ c. omega arith) (λ c. omega arith) (λ c. omega arith) (λ c. omega arith) (λ c. omega arith) (λ c. omega arith)
-    (λ c. let s : tie.Start invariant-loop decreases-loop = search in let at : tie.At-loop invariant-loop decreases-loop = search in (omega arith, one_more s.args.places.partners at.loop.k _ at.loop.inv.1 (search (rules, length-mapped)) _ (search)))
-    (λ c. let s : tie.Start invariant-loop decreases-loop = search in let at : tie.At-loop invariant-loop decreases-loop = search in all_there s.args.places.partners at.loop.k _ at.loop.inv.1 (search (rules, length-mapped)) _ (search)))
+    (λ c. let s : tie.Start invariant-loop decreases-loop = search in let at : tie.At-loop invariant-loop decreases-loop = search in (omega arith, one_more s.args.places.partners at.loop.k _ at.loop.invariant.1 (search (rules, length-mapped)) _ (search)))
+    (λ c. let s : tie.Start invariant-loop decreases-loop = search in let at : tie.At-loop invariant-loop decreases-loop = search in all_there s.args.places.partners at.loop.k _ at.loop.invariant.1 (search (rules, length-mapped)) _ (search)))

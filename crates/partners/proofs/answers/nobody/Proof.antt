@@ -4,6 +4,6 @@ use Rattle.partners.specs.Listing.{answer}
 use Rattle.partners.proofs.answers.nobody.Statement.{statement}
 use Rattle.partners.proofs.answers.nobody.Tie as tie
 
-pub nobody-spec : {M : Type 1} → statement M
+pub nobody_spec : {M : Type 1} → statement M
 unfolding answer
-nobody-spec = tie.close (tie.spec (λ c. search rules))
+nobody_spec = tie.close (tie.spec (λ c. search rules))

@@ -14,5 +14,5 @@ answer : (m : Month) (a : Account) (q : Quantity) (past : Bool) (bank : Units) �
 unfolding spares
 answer m a q past bank e₁ e₂ = cc
 
-pub spares-spec : {M : Type 1} → statement M
-spares-spec = tie.close (tie.spec (search rules) (search rules) (λ c. search answer))
+pub spares_spec : {M : Type 1} → statement M
+spares_spec = tie.close (tie.spec (search rules) (search rules) (λ c. search answer))

@@ -14,5 +14,5 @@ answer : (m : Month) (a : Account) (q : Quantity) (past : Bool) (bank : Units) �
 unfolding takes
 answer m a q past bank e₁ e₂ = cc
 
-pub takes-spec : {M : Type 1} → statement M
-takes-spec = tie.close (tie.spec (search rules) (search rules) (λ c. search answer))
+pub takes_spec : {M : Type 1} → statement M
+takes_spec = tie.close (tie.spec (search rules) (search rules) (λ c. search answer))

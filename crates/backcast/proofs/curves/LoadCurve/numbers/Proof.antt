@@ -14,5 +14,5 @@ joined : (curve : LoadCurve) (f : Float) (b s t a : _) → b ≡ is_number curve
 unfolding allNumbers
 joined curve f b s t a e₁ e₂ e₃ e₄ = cc
 
-pub numbers-spec : {M : Type 1} → statement M
-numbers-spec = tie.close (tie.spec (search rules) (search rules) (search rules) (search rules) (λ c. search joined))
+pub numbers_spec : {M : Type 1} → statement M
+numbers_spec = tie.close (tie.spec (search rules) (search rules) (search rules) (search rules) (λ c. search joined))

@@ -4,6 +4,6 @@ use Rattle.ledger.specs.Entries.{companySells}
 use Rattle.ledger.proofs.entries.Entry.company_sells.Statement.{statement}
 use Rattle.ledger.proofs.entries.Entry.company_sells.Tie as tie
 
-pub company-sells-spec : {M : Type 1} → statement M
+pub company_sells_spec : {M : Type 1} → statement M
 unfolding companySells
-company-sells-spec = tie.close (tie.spec (λ c. search rules))
+company_sells_spec = tie.close (tie.spec (λ c. search rules))

@@ -4,6 +4,6 @@ use Rattle.ledger.specs.Entries.{dayNamed}
 use Rattle.ledger.proofs.entries.Entry.day_named.Statement.{statement}
 use Rattle.ledger.proofs.entries.Entry.day_named.Tie as tie
 
-pub day-named-spec : {M : Type 1} → statement M
+pub day_named_spec : {M : Type 1} → statement M
 unfolding dayNamed
-day-named-spec = tie.close (tie.spec (λ c. search rules))
+day_named_spec = tie.close (tie.spec (λ c. search rules))

@@ -4,6 +4,6 @@ use Rattle.ledger.specs.Entries.{pricesOf}
 use Rattle.ledger.proofs.entries.Entry.prices.Statement.{statement}
 use Rattle.ledger.proofs.entries.Entry.prices.Tie as tie
 
-pub prices-spec : {M : Type 1} → statement M
+pub prices_spec : {M : Type 1} → statement M
 unfolding pricesOf
-prices-spec = tie.close (tie.spec (λ c. search rules))
+prices_spec = tie.close (tie.spec (λ c. search rules))

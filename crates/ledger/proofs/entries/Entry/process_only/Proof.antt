@@ -4,6 +4,6 @@ use Rattle.ledger.specs.Entries.{processOnly}
 use Rattle.ledger.proofs.entries.Entry.process_only.Statement.{statement}
 use Rattle.ledger.proofs.entries.Entry.process_only.Tie as tie
 
-pub process-only-spec : {M : Type 1} → statement M
+pub process_only_spec : {M : Type 1} → statement M
 unfolding processOnly
-process-only-spec = tie.close (tie.spec (λ c. search rules))
+process_only_spec = tie.close (tie.spec (λ c. search rules))

@@ -4,6 +4,6 @@ use Rattle.ledger.specs.Entries.{termsOf}
 use Rattle.ledger.proofs.entries.Entry.terms.Statement.{statement}
 use Rattle.ledger.proofs.entries.Entry.terms.Tie as tie
 
-pub terms-spec : {M : Type 1} → statement M
+pub terms_spec : {M : Type 1} → statement M
 unfolding termsOf
-terms-spec = tie.close (tie.spec (λ c. search rules))
+terms_spec = tie.close (tie.spec (λ c. search rules))

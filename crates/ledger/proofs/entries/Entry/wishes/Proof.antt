@@ -4,6 +4,6 @@ use Rattle.ledger.specs.Entries.{wishes}
 use Rattle.ledger.proofs.entries.Entry.wishes.Statement.{statement}
 use Rattle.ledger.proofs.entries.Entry.wishes.Tie as tie
 
-pub wishes-spec : {M : Type 1} → statement M
+pub wishes_spec : {M : Type 1} → statement M
 unfolding wishes
-wishes-spec = tie.close (tie.spec (λ c. search rules))
+wishes_spec = tie.close (tie.spec (λ c. search rules))

@@ -7,7 +7,7 @@ use Rattle.tariff.proofs.dates.Date.on_confiscation_day.Tie as tie
 
 returns : tie.Need-returns
 unfolding confiscationDay january march
-returns c = let first : tie.After-is-on = search in rw (first.is-on.ensures, c.is-on2.ensures)
+returns c = let first : tie.After-is_on-in_january = search in rw (first.is_on-in_january.ensures, c.is_on-in_march.ensures)
 
 pub on_confiscation_day_spec : {M : Type 1} → statement M
 on_confiscation_day_spec = tie.close (tie.spec (search rules) (search rules) returns)
