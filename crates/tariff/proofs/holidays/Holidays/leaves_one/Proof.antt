@@ -14,4 +14,4 @@ leaves_one_spec =
     tie.close
     (tie.spec
     (λ c κs. omega (arith, bounds (search)))
-    (λ c. let day : tie.After-measurement_day-day = search in rw day.measurement-day.ensures))
+    (λ c. let day : tie.After-measurement_day-day = search in rw day.measurement_day-day.ensures))
