@@ -23,4 +23,3 @@ pub mod Transfers
 pub mod OldKinds
 pub mod OldLedgers
 pub mod AlikeLedgers
-pub mod LentPosting

@@ -9,4 +9,4 @@ unfolding fresh
 fresh_spec =
     tie.close
     (tie.spec (λ c κs. search rules) (λ c κs. search rules) (λ c κs. search rules)
-    (λ c. rw (c.none.ensures, (let at : tie.After-in-one-piece = search in at.in-one-piece.ensures), (let at : tie.After-nobody = search in at.nobody.ensures))))
+    (λ c. rw (c.none-holidays.ensures, (let at : tie.After-in_one_piece-nobody = search in at.in_one_piece-nobody.ensures), (let at : tie.After-nobody = search in at.nobody.ensures))))

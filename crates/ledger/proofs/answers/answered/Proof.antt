@@ -6,4 +6,4 @@ use Rattle.ledger.proofs.answers.answered.Tie as tie
 
 pub answered_spec : {M : Type 1} → statement M
 unfolding refused plain
-answered_spec = tie.close (tie.spec (λ c κs. search rules) (λ c. rw c.quiet.ensures))
+answered_spec = tie.close (tie.spec (λ c κs. search rules) (λ c. rw c.quiet-quiet.ensures))

@@ -24,7 +24,7 @@ module _ (new : Bool) (t : Terms) (e : Entry) (a : Account) (open' : a.opened â‰
   unfolding closingOf lookup
   for-none x y h = cc (ne_eqb e.kind 8 x, ne_eqb e.kind 9 y)
 
-close-month-requires : tie.Need-close-month-requires
+close-month-requires : tie.Need-close_month-requires
 close-month-requires c Îºs =
     let s : tie.Start = search in
     ((s.requires.0.0, s.requires.0.1, s.requires.1), (s.requires.0.2, rw c.prices.ensures (s.requires.0.3 (search))))

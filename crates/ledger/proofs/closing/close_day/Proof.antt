@@ -11,9 +11,9 @@ known s = bounded s.args.a s.requires.1
 returns : tie.Need-returns
 unfolding dayClosing afterDay
 returns c = rw (
-  (let at : tie.After-day-end = search in at.day-end.ensures),
-  (let at : tie.After-cash-at = search in at.cash-at.ensures.0),
-  (let at : tie.After-violations = search in at.violations.ensures),
+  (let at : tie.After-day_end-day = search in at.day_end-day.ensures),
+  (let at : tie.After-cash_at-cash = search in at.cash_at-cash.ensures.0),
+  (let at : tie.After-violations-mask = search in at.violations-mask.ensures),
 )
 
 pub close_day_spec : {M : Type 1} → statement M

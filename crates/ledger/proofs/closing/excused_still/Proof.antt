@@ -6,4 +6,4 @@ use Rattle.ledger.proofs.closing.excused_still.Tie as tie
 
 pub excused_still_spec : {M : Type 1} → statement M
 unfolding excusedStill
-excused_still_spec = tie.close (tie.spec (λ c κs. search rules) (λ c. rw (let at : tie.After-ends-excuse = search in at.ends-excuse.ensures)))
+excused_still_spec = tie.close (tie.spec (λ c κs. search rules) (λ c. rw (let at : tie.After-ends_excuse-ends = search in at.ends_excuse-ends.ensures)))

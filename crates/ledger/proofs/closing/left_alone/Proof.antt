@@ -6,7 +6,7 @@ use Rattle.ledger.proofs.closing.left_alone.Tie as tie
 
 returns : tie.Need-returns
 unfolding leftAlone
-returns c = rw c.quiet.ensures
+returns c = rw c.quiet-report.ensures
 
 pub left_alone_spec : {M : Type 1} → statement M
 left_alone_spec = tie.close (search (rules, tie.spec, returns))

@@ -23,19 +23,19 @@ masked : (d : Date) (a : Account) (limit : Quantity) (v3 v4 v5 v6 v7 v8 : Bool) 
 unfolding violationsOf
 masked d a limit v3 v4 v5 v6 v7 v8 mask m p3 p4 l p5 p6 p7 p8 = cc
 
-breaks-v3-requires : tie.Need-breaks-v3-requires
+breaks-v3-requires : tie.Need-breaks_v3-v3-requires
 breaks-v3-requires c κs = (known (search)).bcq
 
-breaks-v4-requires : tie.Need-breaks-v4-requires
+breaks-v4-requires : tie.Need-breaks_v4-v4-requires
 breaks-v4-requires c κs = omega (arith, known (search))
 
-breaks-v5-requires : tie.Need-breaks-v5-requires
+breaks-v5-requires : tie.Need-breaks_v5-v5-requires
 breaks-v5-requires c κs = search (known (search))
 
-breaks-v6-requires : tie.Need-breaks-v6-requires
+breaks-v6-requires : tie.Need-breaks_v6-v6-requires
 breaks-v6-requires c κs = (known (search)).bcq
 
-breaks-v8-requires : tie.Need-breaks-v8-requires
+breaks-v8-requires : tie.Need-breaks_v8-v8-requires
 breaks-v8-requires c κs = (known (search)).bcq
 
 returns : tie.Need-returns

@@ -38,7 +38,7 @@ Agrees l i p so_far = so_far && everyAccount p (drop i l.accounts) ≡ everyAcco
 abbrev Ready : Ledger → Entry → Account → Bool
 Ready l e = ready (lastOfMonth e.date) (onMeasurementDay (heldIn l) e.date)
 
-abbrev invariant-loop : tie.invariant-loop
+abbrev invariant-loop : tie.invariant-loop-i
 invariant-loop e l date ends held reads is_new terms next₀ reports₀ complete₀ fits₀ i₀ next reports complete fits i =
     (i ≤ 16)
     × (next ≡ accountsTo l e i)
@@ -48,7 +48,7 @@ invariant-loop e l date ends held reads is_new terms next₀ reports₀ complete
     × (ends ≡ lastOfMonth e.date)
     × (reads ≡ onMeasurementDay (heldIn l) e.date)
 
-abbrev decreases-loop : tie.decreases-loop
+abbrev decreases-loop : tie.decreases-loop-i
 decreases-loop e l date ends held reads is_new terms next₀ reports₀ complete₀ fits₀ i₀ next reports complete fits i = 16 - i
 
 -- ---- one account further
@@ -117,22 +117,22 @@ module _ (s : tie.Start invariant-loop decreases-loop) where
   ranged : (i : ℕ) → i < 16 → accountInRange (accountAt s.args.t1 i) ≡ true
   ranged i h = account-ranged s.args.t1 i sixteen h (is-ranged s.args.t1 s.args.e s.requires.0)
 
-loop-holds : tie.Need-loop-init invariant-loop decreases-loop
+loop-holds : tie.Need-loop-i-init invariant-loop decreases-loop
 unfolding heldIn
-loop-holds c = (search rules, refl, rw c.quiet.ensures, refl, refl, (let at : tie.After-last-of-month invariant-loop decreases-loop = search in at.last-of-month.ensures), (let at : tie.After-on-measurement-day invariant-loop decreases-loop = search in at.on-measurement-day.ensures))
+loop-holds c = (search rules, refl, rw c.quiet-quiet.ensures, refl, refl, (let at : tie.After-last_of_month-ends invariant-loop decreases-loop = search in at.last_of_month-ends.ensures), (let at : tie.After-on_measurement_day-reads invariant-loop decreases-loop = search in at.on_measurement_day-reads.ensures))
 
-close-account-requires : tie.Need-close-account-requires invariant-loop decreases-loop
+close-account-requires : tie.Need-close_account-one-requires invariant-loop decreases-loop
 unfolding nobody noTotals noMonth noToday accountAt
 close-account-requires c κs =
     let s : tie.Start invariant-loop decreases-loop = search in
-    let v : tie.At-loop invariant-loop decreases-loop = search in
+    let v : tie.At-loop-i invariant-loop decreases-loop = search in
     ((real-date s, ranged s v.loop.i (omega arith), in-force s, prices-fit s.args.e (is_right s.args.t1 s.args.e s.requires.0)), c.if1.true)
 
-loop-again : tie.Need-loop-preserved invariant-loop decreases-loop
+loop-again : tie.Need-loop-i-preserved invariant-loop decreases-loop
 unfolding nobody noTotals noMonth noToday accountAt
 loop-again c =
     let s : tie.Start invariant-loop decreases-loop = search in
-    let v : tie.At-loop invariant-loop decreases-loop = search in
+    let v : tie.At-loop-i invariant-loop decreases-loop = search in
     let n : length s.args.t1.accounts ≡ 16 = sixteen s in
     let h : v.loop.i < 16 = omega arith in
     let f = ranged s v.loop.i h in
@@ -140,7 +140,7 @@ loop-again c =
     let read = v.loop.invariant.6 in
     let further : v.loop.i + 1 ≤ 16 = omega arith in
     ⊎_elim
-    (λ w. (further, search open-stored, search open-reported, (let at : tie.After-ready invariant-loop decreases-loop = search in open-complete s.args.t1 s.args.e v.loop.i n h v.loop.complete _ _ _ c.if1.complete v.loop.invariant.3 at.ready.ensures ended read (search)), (let closed : tie.After-close-account invariant-loop decreases-loop = search in let day : tie.After-account-in-range invariant-loop decreases-loop = search in let end : tie.After-account-in-range2 invariant-loop decreases-loop = search in open_stays s.args.t1 s.args.e v.loop.i n h v.loop.fits _ _ c.if1.ranges _ (search) v.loop.invariant.4 day.account-in-range.ensures end.account-in-range2.ensures closed.close-account.ensures), v.loop.invariant.5, v.loop.invariant.6))
+    (λ w. (further, search open-stored, search open-reported, (let at : tie.After-ready-had invariant-loop decreases-loop = search in open-complete s.args.t1 s.args.e v.loop.i n h v.loop.complete _ _ _ c.if1.complete v.loop.invariant.3 at.ready.ensures ended read (search)), (let closed : tie.After-close_account-one invariant-loop decreases-loop = search in let day : tie.After-account_in_range invariant-loop decreases-loop = search in let end : tie.After-account_in_range invariant-loop decreases-loop = search in open_stays s.args.t1 s.args.e v.loop.i n h v.loop.fits _ _ c.if1.ranges _ (search) v.loop.invariant.4 day.account-in-range.ensures end.account-in-range2.ensures closed.close-account.ensures), v.loop.invariant.5, v.loop.invariant.6))
     (λ w. (further, search shut-stored, search shut-reported, search shut-complete, search shut-stays, v.loop.invariant.5, v.loop.invariant.6))
     c.if1.branch
 
@@ -148,13 +148,13 @@ returns : tie.Need-returns invariant-loop decreases-loop
 unfolding closed
 returns c =
     let s : tie.Start invariant-loop decreases-loop = search in
-    let v : tie.At-loop invariant-loop decreases-loop = search in
+    let v : tie.At-loop-i invariant-loop decreases-loop = search in
     let l = s.args.t1 in
     let e = s.args.e in
     let i = v.loop.i in
     let n : length l.accounts ≡ 16 = sixteen s in (
       (
-        rw (v.loop.invariant.1, c.still-held.ensures, (let at : tie.After-day-after invariant-loop decreases-loop = search in at.day-after.ensures), filled-end (afterClosing l.is_new l.terms e) l.accounts l.accounts i (omega (arith, n)) (omega (arith, n))),
+        rw (v.loop.invariant.1, c.still-held.ensures, (let at : tie.After-day_after-tomorrow invariant-loop decreases-loop = search in at.day-after.ensures), filled-end (afterClosing l.is_new l.terms e) l.accounts l.accounts i (omega (arith, n)) (omega (arith, n))),
         v.loop.invariant.2 ∙ filled-end (reportOf l.is_new l.terms e) l.accounts (replicate 16 quiet) i (omega (arith, n)) (omega arith),
       ),
       (
@@ -163,16 +163,16 @@ returns c =
       ),
     )
 
-last-of-month-requires : tie.Need-last-of-month-requires invariant-loop decreases-loop
+last-of-month-requires : tie.Need-last_of_month-ends-requires invariant-loop decreases-loop
 last-of-month-requires c κs = real-date (search)
 
-on-measurement-day-requires : tie.Need-on-measurement-day-requires invariant-loop decreases-loop
+on-measurement-day-requires : tie.Need-on_measurement_day-reads-requires invariant-loop decreases-loop
 on-measurement-day-requires c κs = real-date (search)
 
-day-after-requires : tie.Need-day-after-requires invariant-loop decreases-loop
+day-after-requires : tie.Need-day_after-tomorrow-requires invariant-loop decreases-loop
 day-after-requires c κs = real-date (search)
 
-still-held-requires : tie.Need-still-held-requires invariant-loop decreases-loop
+still-held-requires : tie.Need-still_held-kept-requires invariant-loop decreases-loop
 still-held-requires c κs = real-date (search)
 
 mul-a : tie.Need-overflow-mul-a invariant-loop decreases-loop
@@ -193,7 +193,7 @@ mul-reports c = search rules
 add-i : tie.Need-overflow-add-i invariant-loop decreases-loop
 add-i c = search rules
 
-loop-less : tie.Need-loop-smaller invariant-loop decreases-loop
+loop-less : tie.Need-loop-i-smaller invariant-loop decreases-loop
 loop-less c = search rules
 
 pub close_all_spec : {M : Type 1} → statement M

@@ -21,7 +21,7 @@ judged : (t : Terms) (a b : Account) (e : Entry) (amount : Units) (fits : Bool) 
 unfolding delivery deliverChecks afterDelivery amountUnder verdict
 judged t a b e amount fits n₁ n₂ n₃ q₃ q₂ q₁ r q p = cc
 
-retained-requires : tie.Need-retained-requires
+retained-requires : tie.Need-retained-amount-requires
 retained-requires c κs =
     let s : tie.Start = search in
     let w = deliver-fits s.args.e s.requires.0 s.requires.1 in
@@ -30,7 +30,7 @@ retained-requires c κs =
 returns : tie.Need-returns
 returns c = search judged
 
-delivered-requires : tie.Need-delivered-requires
+delivered-requires : tie.Need-delivered-b-requires
 delivered-requires c κs = search rules
 
 pub delivery_spec : {M : Type 1} → statement M

@@ -23,7 +23,7 @@ judged : (t : Terms) (a b : Account) (e : Entry) (only wants stays above fits : 
 unfolding enrolment enrolChecks enrolled verdict
 judged t a b e only wants stays above fits n₁ n₂ n₃ n₄ q₄ q₃ q₂ q₁ s o w h r p = cc
 
-new-account-requires : tie.Need-new-account-requires
+new-account-requires : tie.Need-new_account-b-requires
 new-account-requires c κs =
     let s : tie.Start = search in
     let w = enrol-fits s.args.e s.requires.0 s.requires.1 in
@@ -32,7 +32,7 @@ new-account-requires c κs =
 returns : tie.Need-returns
 returns c = search judged
 
-opening-too-high-requires : tie.Need-opening-too-high-requires
+opening-too-high-requires : tie.Need-opening_too_high-above-requires
 opening-too-high-requires c κs = search rules
 
 pub enrolment_spec : {M : Type 1} → statement M

@@ -9,21 +9,21 @@ returns : tie.Need-returns
 unfolding newAccount asOpen withBank withMeasure withCapacity
 returns c = (
   rw (
-    (let at : tie.After-of = search in at.of.ensures),
-    (let at : tie.After-nobody = search in at.nobody.ensures),
-    (let at : tie.After-capacity = search in at.capacity.ensures.0),
-    (let at : tie.After-first = search in at.first.ensures.0),
+    (let at : tie.After-of-bank = search in at.of-bank.ensures),
+    (let at : tie.After-nobody-next = search in at.nobody-next.ensures),
+    (let at : tie.After-capacity-capacity = search in at.capacity.ensures.0),
+    (let at : tie.After-first-step = search in at.first.ensures.0),
   ),
   search rules,
 )
 
-first-requires : tie.Need-first-requires
+first-requires : tie.Need-first-step-requires
 first-requires c κs = search rules
 
-capacity-requires : tie.Need-capacity-requires
+capacity-requires : tie.Need-capacity-capacity-requires
 capacity-requires c κs = search rules
 
-of-requires : tie.Need-of-requires
+of-requires : tie.Need-of-bank-requires
 of-requires c κs = search rules
 
 pub new_account_spec : {M : Type 1} → statement M

@@ -33,7 +33,7 @@ pub post_holiday_spec : {M : Type 1} → statement M
 post_holiday_spec =
     tie.close
     (tie.spec (search rules) (search rules) (search rules)
-    (λ c. let d : tie.After-day-named = search in let n : tie.After-refusal = search in refuses _ _ _ _ d.day-named.ensures (n.refusal.ensures _ refl refl) _ c.answered.ensures (search))
-    (λ c κs. let s : tie.Start = search in let n : tie.After-refusal = search in has_room s.args.l _ (sym (n.refusal.ensures s.args.l refl refl) ∙ search))
+    (λ c. let d : tie.After-day_named-d = search in let n : tie.After-refusal-n = search in refuses _ _ _ _ d.day_named-d.ensures (n.refusal-n.ensures _ refl refl) _ c.answered.ensures (search))
+    (λ c κs. let s : tie.Start = search in let n : tie.After-refusal-n = search in has_room s.args.l _ (sym (n.refusal-n.ensures s.args.l refl refl) ∙ search))
     (search rules)
-    (λ c. let d : tie.After-day-named = search in let n : tie.After-refusal = search in let h : tie.After-naming = search in holds _ _ _ _ d.day-named.ensures (n.refusal.ensures _ refl refl) _ _ h.naming.ensures c.answered2.ensures (search)))
+    (λ c. let d : tie.After-day_named-d = search in let n : tie.After-refusal-n = search in let h : tie.After-naming-holidays = search in holds _ _ _ _ d.day_named-d.ensures (n.refusal-n.ensures _ refl refl) _ _ h.naming-holidays.ensures c.answered2.ensures (search)))

@@ -18,7 +18,7 @@ judged : (a b : Account) (e : Entry) (fits : Bool) (n₁ n₂ n₃ : ℕ)
 unfolding measurement measureChecks afterMeasure verdict
 judged a b e fits n₁ n₂ n₃ q₃ q₂ q₁ r p = cc
 
-remeasured-requires : tie.Need-remeasured-requires
+remeasured-requires : tie.Need-remeasured-b-requires
 remeasured-requires c κs = search (rules, measure-fits)
 
 returns : tie.Need-returns

@@ -9,4 +9,4 @@ use Rattle.ledger.proofs.measure.remeasured.Tie as tie
 pub remeasured_spec : {M : Type 1} → statement M
 unfolding remeasured withMeasure withMonth
 remeasured_spec =
-    tie.close (tie.spec (λ c κs. let s : tie.Start = search in omega (arith, bounded s.args.a s.requires.0)) (λ c. rw c.measured.ensures))
+    tie.close (tie.spec (λ c κs. let s : tie.Start = search in omega (arith, bounded s.args.a s.requires.0)) (λ c. rw c.measured-measured.ensures))

@@ -9,13 +9,13 @@ use Rattle.ledger.proofs.panels.open_bank.Tie as tie
 
 returns : tie.Need-returns
 unfolding openBank
-returns c = (rw c.if1.true, omega arith)
+returns c = (rw c.if-a.true, omega arith)
 
-returns-2 : tie.Need-returns-2
+returns-2 : tie.Need-returns
 unfolding openBank
 returns-2 c =
-    let shut : tie.Else1 = search in
-    (rw (c.nothing.ensures, nothing-value, shut.if1.left), rw c.nothing.ensures (omega (arith, size-nothing)))
+    let shut : tie.Else-a = search in
+    (rw (c.nothing.ensures, nothing-value, shut.if-a.left), rw c.nothing.ensures (omega (arith, size-nothing)))
 
 pub open_bank_spec : {M : Type 1} → statement M
 open_bank_spec = tie.close (search (rules, tie.spec, returns, returns-2))

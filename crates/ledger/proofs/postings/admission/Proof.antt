@@ -36,13 +36,13 @@ module _ (fits begun touched new : Bool) (today : Date) (held : Holidays) (e : E
 dated : (new : Bool) (e : Entry) (n : ℕ) → n ≡ entryNumber new e → n ≡ 0 → real e.date ≡ true
 dated new e n p z = is_real e (own-right new e (sym p ∙ z))
 
-wrong-day-requires : tie.Need-wrong-day-requires
+wrong-day-requires : tie.Need-wrong_day-wrong-requires
 wrong-day-requires c κs = search dated
 
 returns : tie.Need-returns
 returns c l f b t i d h = search wrong
 
-returns-2 : tie.Need-returns-2
+returns-2 : tie.Need-returns
 returns-2 c l f b t i d h = search judged
 
 pub admission_spec : {M : Type 1} → statement M

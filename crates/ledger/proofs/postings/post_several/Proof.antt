@@ -8,14 +8,14 @@ use Rattle.ledger.specs.Posting.{postSeveral}
 use Rattle.ledger.proofs.postings.post_several.Statement.{statement}
 use Rattle.ledger.proofs.postings.post_several.Tie as tie
 
-post-closing-requires : tie.Need-post-closing-requires
+post-closing-requires : tie.Need-post_closing-requires
 post-closing-requires c κs =
     let s : tie.Start = search in
-    (s.requires, ⊎_elim (λ k z. omega (arith, z, k.keys3)) (λ k z. omega (arith, z, k.keys4)) c.match.branch)
+    (s.requires, ⊎_elim (λ k z. omega (arith, z, k.keys3)) (λ k z. omega (arith, z, k.keys4)) c.match-kind.branch)
 
-returns-5 : tie.Need-returns-5
+returns-5 : tie.Need-returns
 unfolding postSeveral lookup
-returns-5 c = ⊎_elim (λ k. search at) (λ k. search at) (let at : tie.At-match-branch = search in at.match.came)
+returns-5 c = ⊎_elim (λ k. search at) (λ k. search at) (let at : tie.At-match-branch = search in at.match-kind.came)
 
 pub post_several_spec : {M : Type 1} → statement M
 unfolding postSeveral lookup

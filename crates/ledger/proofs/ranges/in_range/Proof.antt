@@ -11,33 +11,33 @@ use Rattle.ledger.specs.State.{noMonth, noToday, noTotals, nobody}
 use Rattle.ledger.proofs.ranges.in_range.Statement.{statement}
 use Rattle.ledger.proofs.ranges.in_range.Tie as tie
 
-abbrev invariant-loop : tie.invariant-loop
+abbrev invariant-loop : tie.invariant-loop-i
 invariant-loop l held_fit ok₀ i₀ ok i = (i ≤ 16) × (ok && everyAccount accountInRange (drop i l.accounts) ≡ in_range l)
 
-abbrev decreases-loop : tie.decreases-loop
+abbrev decreases-loop : tie.decreases-loop-i
 decreases-loop l held_fit ok₀ i₀ ok i = 16 - i
 
 sixteen : (s : tie.Start invariant-loop decreases-loop) → length s.args.t1.accounts ≡ 16
 sixteen s = search (rules, length-mapped)
 
-loop-holds : tie.Need-loop-init invariant-loop decreases-loop
+loop-holds : tie.Need-loop-i-init invariant-loop decreases-loop
 unfolding in_range
-loop-holds c = (search rules, rw ((let at : tie.After-in-range invariant-loop decreases-loop = search in at.in-range.ensures), (let at : tie.After-in-range2 invariant-loop decreases-loop = search in at.in-range2.ensures), (let at : tie.After-real invariant-loop decreases-loop = search in at.real.ensures)))
+loop-holds c = (search rules, rw ((let at : tie.After-in_range invariant-loop decreases-loop = search in at.in_range.ensures), (let at : tie.After-in_range invariant-loop decreases-loop = search in at.in_range.ensures), (let at : tie.After-real invariant-loop decreases-loop = search in at.real.ensures)))
 
-loop-again : tie.Need-loop-preserved invariant-loop decreases-loop
+loop-again : tie.Need-loop-i-preserved invariant-loop decreases-loop
 unfolding nobody noTotals noMonth noToday
 loop-again c =
     let s : tie.Start invariant-loop decreases-loop = search in
-    let v : tie.At-loop invariant-loop decreases-loop = search in (
+    let v : tie.At-loop-i invariant-loop decreases-loop = search in (
       omega arith,
-      rw (let at : tie.After-account-in-range invariant-loop decreases-loop = search in at.account-in-range.ensures)
+      rw (let at : tie.After-account_in_range-one invariant-loop decreases-loop = search in at.account_in_range-one.ensures)
           (sym (every-next accountInRange s.args.t1.accounts v.loop.i nobody v.loop.ok (omega (arith, sixteen s))) ∙ v.loop.invariant.1),
     )
 
 returns : tie.Need-returns invariant-loop decreases-loop
 returns c =
     let s : tie.Start invariant-loop decreases-loop = search in
-    let v : tie.At-loop invariant-loop decreases-loop = search in
+    let v : tie.At-loop-i invariant-loop decreases-loop = search in
     sym (every-end accountInRange s.args.t1.accounts v.loop.i v.loop.ok (omega (arith, sixteen s))) ∙ v.loop.invariant.1
 
 mul-a : tie.Need-overflow-mul-a invariant-loop decreases-loop
@@ -49,7 +49,7 @@ element-copy-out-a c = search rules
 add-i : tie.Need-overflow-add-i invariant-loop decreases-loop
 add-i c = search rules
 
-loop-less : tie.Need-loop-smaller invariant-loop decreases-loop
+loop-less : tie.Need-loop-i-smaller invariant-loop decreases-loop
 loop-less c = search rules
 
 pub in_range_spec : {M : Type 1} → statement M

@@ -6,4 +6,4 @@ use Rattle.ledger.proofs.state.no_month.Tie as tie
 
 pub no_month_spec : {M : Type 1} → statement M
 unfolding noMonth
-no_month_spec = tie.close (tie.spec (search rules) (λ c. rw c.no-totals.ensures))
+no_month_spec = tie.close (tie.spec (search rules) (λ c. rw c.no_totals-totals.ensures))

@@ -6,7 +6,7 @@ use Rattle.ledger.proofs.state.nobody.Tie as tie
 
 returns : tie.Need-returns
 unfolding nobody
-returns c = rw ((let at : tie.After-no-today = search in at.no-today.ensures), (let at : tie.After-no-month = search in at.no-month.ensures))
+returns c = rw ((let at : tie.After-no_today-today = search in at.no_today-today.ensures), (let at : tie.After-no_month-month = search in at.no_month-month.ensures))
 
 pub nobody_spec : {M : Type 1} → statement M
 nobody_spec = tie.close (search (rules, tie.spec, returns))

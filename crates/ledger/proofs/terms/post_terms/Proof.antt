@@ -19,7 +19,7 @@ judged : (l next : Ledger) (e : Entry) (fits : Bool) (n : ℕ) (r : Posted)
 unfolding postTerms termsChecks verdict
 judged l next e fits n r z q₁ q p = cc
 
-terms-next-requires : tie.Need-terms-next-requires
+terms-next-requires : tie.Need-terms_next-next-requires
 terms-next-requires c κs = search rules
 
 returns : tie.Need-returns

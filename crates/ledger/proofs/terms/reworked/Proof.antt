@@ -5,16 +5,16 @@ use Rattle.ledger.specs.Terms.{reworked}
 use Rattle.ledger.proofs.terms.reworked.Statement.{statement}
 use Rattle.ledger.proofs.terms.reworked.Tie as tie
 
-capacity-requires : tie.Need-capacity-requires
-capacity-requires c κs = let s : tie.Start = search in (s.requires.0, (stepped s.args.a s.requires.1 c.if1.true).k.1)
+capacity-requires : tie.Need-capacity-capacity-requires
+capacity-requires c κs = let s : tie.Start = search in (s.requires.0, (stepped s.args.a s.requires.1 c.if-a.true).k.1)
 
 returns : tie.Need-returns
 unfolding reworked withCapacity
-returns c = let open' : tie.Then1 = search in rw (c.capacity.ensures.0, open'.if1.taken)
+returns c = let open' : tie.Then-a = search in rw (c.capacity.ensures.0, open'.if-a.taken)
 
-returns-2 : tie.Need-returns-2
+returns-2 : tie.Need-returns
 unfolding reworked withCapacity
-returns-2 c = rw c.if1.false
+returns-2 c = rw c.if-a.false
 
 pub reworked_spec : {M : Type 1} → statement M
 reworked_spec = tie.close (tie.spec capacity-requires returns returns-2)

@@ -10,50 +10,50 @@ use Rattle.ledger.proofs.RightEntries.{terms-fit}
 use Rattle.ledger.proofs.Lists.{filled, filled-end, filled_next, length-mapped, withAccounts}
 use Rattle.ledger.specs.State.{accountAt, noMonth, noToday, noTotals, nobody}
 use Rattle.ledger.specs.Terms.{reworked, termsNext}
-use Rattle.ledger.proofs.terms.terms_next.Statement.{statement}
-use Rattle.ledger.proofs.terms.terms_next.Tie as tie
+use Rattle.ledger.proofs.terms-terms.terms_next.Statement.{statement}
+use Rattle.ledger.proofs.terms-terms.terms_next.Tie as tie
 
-abbrev invariant-loop : tie.invariant-loop
+abbrev invariant-loop : tie.invariant-loop-i
 invariant-loop l terms date next₀ i₀ next i = (i ≤ 16) × (next ≡ withAccounts l (filled (reworked terms) l.accounts l.accounts i))
 
-abbrev decreases-loop : tie.decreases-loop
+abbrev decreases-loop : tie.decreases-loop-i
 decreases-loop l terms date next₀ i₀ next i = 16 - i
 
 sixteen : (s : tie.Start invariant-loop decreases-loop) → length s.args.t1.accounts ≡ 16
 sixteen s = search (rules, length-mapped)
 
-loop-holds : tie.Need-loop-init invariant-loop decreases-loop
+loop-holds : tie.Need-loop-i-init invariant-loop decreases-loop
 loop-holds c = (search rules, refl)
 
-reworked-requires : tie.Need-reworked-requires invariant-loop decreases-loop
+reworked-requires : tie.Need-reworked-b-requires invariant-loop decreases-loop
 unfolding nobody noTotals noMonth noToday accountAt
 reworked-requires c κs =
     let s : tie.Start invariant-loop decreases-loop = search in
-    let v : tie.At-loop invariant-loop decreases-loop = search in
-    let t : tie.After-terms invariant-loop decreases-loop = search in (
-      rw t.terms.ensures (terms-fit s.args.e (is_right s.args.t1 s.args.e s.requires.0) s.requires.1),
+    let v : tie.At-loop-i invariant-loop decreases-loop = search in
+    let t : tie.After-terms-terms invariant-loop decreases-loop = search in (
+      rw t.terms-terms.ensures (terms-fit s.args.e (is_right s.args.t1 s.args.e s.requires.0) s.requires.1),
       account-ranged s.args.t1 v.loop.i (sixteen s) (omega arith) (is-ranged s.args.t1 s.args.e s.requires.0),
     )
 
-loop-again : tie.Need-loop-preserved invariant-loop decreases-loop
+loop-again : tie.Need-loop-i-preserved invariant-loop decreases-loop
 unfolding nobody noTotals noMonth noToday
 loop-again c =
     let s : tie.Start invariant-loop decreases-loop = search in
-    let v : tie.At-loop invariant-loop decreases-loop = search in
-    let t : tie.After-terms invariant-loop decreases-loop = search in
+    let v : tie.At-loop-i invariant-loop decreases-loop = search in
+    let t : tie.After-terms-terms invariant-loop decreases-loop = search in
     let xs = s.args.t1.accounts in (
       omega arith,
-      rw (v.loop.invariant.1, (let at : tie.After-reworked invariant-loop decreases-loop = search in at.reworked.ensures), filled_next (reworked t.terms.result) xs xs v.loop.i nobody (omega arith) (omega (arith, sixteen s))),
+      rw (v.loop.invariant.1, (let at : tie.After-reworked-b invariant-loop decreases-loop = search in at.reworked.ensures), filled_next (reworked t.terms-terms.result) xs xs v.loop.i nobody (omega arith) (omega (arith, sixteen s))),
     )
 
 returns : tie.Need-returns invariant-loop decreases-loop
 unfolding termsNext
 returns c =
     let s : tie.Start invariant-loop decreases-loop = search in
-    let v : tie.At-loop invariant-loop decreases-loop = search in
-    let t : tie.After-terms invariant-loop decreases-loop = search in
+    let v : tie.At-loop-i invariant-loop decreases-loop = search in
+    let t : tie.After-terms-terms invariant-loop decreases-loop = search in
     let xs = s.args.t1.accounts in
-    rw (v.loop.invariant.1, filled-end (reworked t.terms.result) xs xs v.loop.i (omega (arith, sixteen s)) (omega (arith, sixteen s)), t.terms.ensures)
+    rw (v.loop.invariant.1, filled-end (reworked t.terms-terms.result) xs xs v.loop.i (omega (arith, sixteen s)) (omega (arith, sixteen s)), t.terms-terms.ensures)
 
 mul-a : tie.Need-overflow-mul-a invariant-loop decreases-loop
 mul-a c = search rules
@@ -70,7 +70,7 @@ element-set-from-b c = search rules
 add-i : tie.Need-overflow-add-i invariant-loop decreases-loop
 add-i c = search rules
 
-loop-less : tie.Need-loop-smaller invariant-loop decreases-loop
+loop-less : tie.Need-loop-i-smaller invariant-loop decreases-loop
 loop-less c = search rules
 
 pub terms_next_spec : {M : Type 1} → statement M

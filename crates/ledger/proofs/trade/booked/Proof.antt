@@ -13,7 +13,7 @@ returns : tie.Need-returns
 unfolding booked withMonth withTotals withTrade
 returns c = rw ((let at : tie.After-plus = search in at.plus.ensures), (let at : tie.Then1 = search in at.if1.taken))
 
-returns-2 : tie.Need-returns-2
+returns-2 : tie.Need-returns
 unfolding booked withMonth withTotals withTrade
 returns-2 c = rw ((let at : tie.After-plus2 = search in at.plus2.ensures), (let at : tie.Else1 = search in at.if1.left))
 

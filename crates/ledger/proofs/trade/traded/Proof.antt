@@ -23,12 +23,12 @@ module _ (a b : Account) (e : Entry) (sells : Bool) (c : Change) (is : sells ≡
   bought f p = cc
 
 -- what giving and taking ask
-asked : (c : tie.After-booked) → (size c.booked.result.bank ≤ 100000000000) × (c.booked.result.capacity.bcq.0 ≤ 30000000)
+asked : (c : tie.After-booked-b) → (size c.booked-b.result.bank ≤ 100000000000) × (c.booked-b.result.capacity.bcq.0 ≤ 30000000)
 unfolding booked withMonth withTotals
 asked c =
     let s : tie.Start = search in
     let known = bounded s.args.a s.requires.0 in
-    rw c.booked.ensures (known.bank, known.bcq)
+    rw c.booked-b.ensures (known.bank, known.bcq)
 
 pub traded_spec : {M : Type 1} → statement M
 traded_spec =
