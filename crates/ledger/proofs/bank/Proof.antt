@@ -11,15 +11,15 @@ use Rattle.tariff.proofs.Laws.{nothing-value}
 use Rattle.ledger.proofs.bank.Statement.{statement}
 use Rattle.ledger.proofs.bank.Tie as tie
 
-sixteen : (c : tie.Start) → length c.args.t1.accounts ≡ 16
+sixteen : (c : tie.Start) → length c.args.ledger.accounts ≡ 16
 sixteen c = search (rules, length-mapped)
 
 returns : tie.Need-returns
 unfolding bankOf accountAt openBank nobody noTotals noMonth noToday
 returns c =
     let s : tie.Start = search in
-    let past : length s.args.t1.accounts ≤ s.args.account = omega (arith, sixteen s) in
-    rw (c.nothing.ensures, nothing-value, get_or-eq_default s.args.t1.accounts nobody past)
+    let past : length s.args.ledger.accounts ≤ s.args.account = omega (arith, sixteen s) in
+    rw (c.nothing.ensures, nothing-value, get_or-eq_default s.args.ledger.accounts nobody past)
 
 pub bank_spec : {M : Type 1} → statement M
 unfolding bankOf accountAt nobody noTotals noMonth noToday

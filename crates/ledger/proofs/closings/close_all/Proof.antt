@@ -103,19 +103,19 @@ module _ (l : Ledger) (e : Entry) (i : ℕ) (n : length l.accounts ≡ 16) (h : 
 -- ---- what holds of an admitted closing
 
 module _ (s : tie.Start invariant-loop decreases-loop) where
-  sixteen : length s.args.t1.accounts ≡ 16
+  sixteen : length s.args.l.accounts ≡ 16
   sixteen = search (rules, length-mapped)
 
   real-date : real s.args.e.date ≡ true
-  real-date = is_real s.args.t1 s.args.e s.requires.0
+  real-date = is_real s.args.l s.args.e s.requires.0
 
-  in-force : termsInRange s.args.t1.terms ≡ true
+  in-force : termsInRange s.args.l.terms ≡ true
   in-force =
-      (begun-ranged s.args.t1 (is-ranged s.args.t1 s.args.e s.requires.0)
-      (is-begun s.args.t1 s.args.e s.requires.0 s.requires.1)).1
+      (begun-ranged s.args.l (is-ranged s.args.l s.args.e s.requires.0)
+      (is-begun s.args.l s.args.e s.requires.0 s.requires.1)).1
 
-  ranged : (i : ℕ) → i < 16 → accountInRange (accountAt s.args.t1 i) ≡ true
-  ranged i h = account-ranged s.args.t1 i sixteen h (is-ranged s.args.t1 s.args.e s.requires.0)
+  ranged : (i : ℕ) → i < 16 → accountInRange (accountAt s.args.l i) ≡ true
+  ranged i h = account-ranged s.args.l i sixteen h (is-ranged s.args.l s.args.e s.requires.0)
 
 loop-holds : tie.Need-loop-i-init invariant-loop decreases-loop
 unfolding heldIn
@@ -126,40 +126,40 @@ unfolding nobody noTotals noMonth noToday accountAt
 close-account-requires c κs =
     let s : tie.Start invariant-loop decreases-loop = search in
     let v : tie.At-loop-i invariant-loop decreases-loop = search in
-    ((real-date s, ranged s v.loop.i (omega arith), in-force s, prices-fit s.args.e (is_right s.args.t1 s.args.e s.requires.0)), c.if1.true)
+    ((real-date s, ranged s v.loop-i.i (omega arith), in-force s, prices-fit s.args.e (is_right s.args.l s.args.e s.requires.0)), c.if-a.true)
 
 loop-again : tie.Need-loop-i-preserved invariant-loop decreases-loop
 unfolding nobody noTotals noMonth noToday accountAt
 loop-again c =
     let s : tie.Start invariant-loop decreases-loop = search in
     let v : tie.At-loop-i invariant-loop decreases-loop = search in
-    let n : length s.args.t1.accounts ≡ 16 = sixteen s in
-    let h : v.loop.i < 16 = omega arith in
-    let f = ranged s v.loop.i h in
-    let ended = v.loop.invariant.5 in
-    let read = v.loop.invariant.6 in
-    let further : v.loop.i + 1 ≤ 16 = omega arith in
+    let n : length s.args.l.accounts ≡ 16 = sixteen s in
+    let h : v.loop-i.i < 16 = omega arith in
+    let f = ranged s v.loop-i.i h in
+    let ended = v.loop-i.invariant.5 in
+    let read = v.loop-i.invariant.6 in
+    let further : v.loop-i.i + 1 ≤ 16 = omega arith in
     ⊎_elim
-    (λ w. (further, search open-stored, search open-reported, (let at : tie.After-ready-had invariant-loop decreases-loop = search in open-complete s.args.t1 s.args.e v.loop.i n h v.loop.complete _ _ _ c.if1.complete v.loop.invariant.3 at.ready.ensures ended read (search)), (let closed : tie.After-close_account-one invariant-loop decreases-loop = search in let day : tie.After-account_in_range invariant-loop decreases-loop = search in let end : tie.After-account_in_range invariant-loop decreases-loop = search in open_stays s.args.t1 s.args.e v.loop.i n h v.loop.fits _ _ c.if1.ranges _ (search) v.loop.invariant.4 day.account-in-range.ensures end.account-in-range2.ensures closed.close-account.ensures), v.loop.invariant.5, v.loop.invariant.6))
-    (λ w. (further, search shut-stored, search shut-reported, search shut-complete, search shut-stays, v.loop.invariant.5, v.loop.invariant.6))
-    c.if1.branch
+    (λ w. (further, search open-stored, search open-reported, (let at : tie.After-ready-had invariant-loop decreases-loop = search in open-complete s.args.l s.args.e v.loop-i.i n h v.loop-i.complete _ _ _ c.if-a.complete v.loop-i.invariant.3 at.ready-had.ensures ended read (search)), (let closed : tie.After-close_account-one invariant-loop decreases-loop = search in let day : tie.After-account_in_range invariant-loop decreases-loop = search in let end : tie.After-account_in_range invariant-loop decreases-loop = search in open_stays s.args.l s.args.e v.loop-i.i n h v.loop-i.fits _ _ c.if-a.ranges _ (search) v.loop-i.invariant.4 day.account-in-range.ensures end.account-in-range2.ensures closed.close-account.ensures), v.loop-i.invariant.5, v.loop-i.invariant.6))
+    (λ w. (further, search shut-stored, search shut-reported, search shut-complete, search shut-stays, v.loop-i.invariant.5, v.loop-i.invariant.6))
+    c.if-a.branch
 
 returns : tie.Need-returns invariant-loop decreases-loop
 unfolding closed
 returns c =
     let s : tie.Start invariant-loop decreases-loop = search in
     let v : tie.At-loop-i invariant-loop decreases-loop = search in
-    let l = s.args.t1 in
+    let l = s.args.l in
     let e = s.args.e in
-    let i = v.loop.i in
+    let i = v.loop-i.i in
     let n : length l.accounts ≡ 16 = sixteen s in (
       (
-        rw (v.loop.invariant.1, c.still-held.ensures, (let at : tie.After-day_after-tomorrow invariant-loop decreases-loop = search in at.day-after.ensures), filled-end (afterClosing l.is_new l.terms e) l.accounts l.accounts i (omega (arith, n)) (omega (arith, n))),
-        v.loop.invariant.2 ∙ filled-end (reportOf l.is_new l.terms e) l.accounts (replicate 16 quiet) i (omega (arith, n)) (omega arith),
+        rw (v.loop-i.invariant.1, c.still_held-kept.ensures, (let at : tie.After-day_after-tomorrow invariant-loop decreases-loop = search in at.day_after-tomorrow.ensures), filled-end (afterClosing l.is_new l.terms e) l.accounts l.accounts i (omega (arith, n)) (omega (arith, n))),
+        v.loop-i.invariant.2 ∙ filled-end (reportOf l.is_new l.terms e) l.accounts (replicate 16 quiet) i (omega (arith, n)) (omega arith),
       ),
       (
-        sym (every-end (Ready l e) l.accounts i v.loop.complete (omega (arith, n))) ∙ v.loop.invariant.3,
-        sym (every-end (staysInRange l.is_new l.terms e) l.accounts i v.loop.fits (omega (arith, n))) ∙ v.loop.invariant.4,
+        sym (every-end (Ready l e) l.accounts i v.loop-i.complete (omega (arith, n))) ∙ v.loop-i.invariant.3,
+        sym (every-end (staysInRange l.is_new l.terms e) l.accounts i v.loop-i.fits (omega (arith, n))) ∙ v.loop-i.invariant.4,
       ),
     )
 

@@ -11,8 +11,8 @@ returns c = (
   rw (
     (let at : tie.After-of-bank = search in at.of-bank.ensures),
     (let at : tie.After-nobody-next = search in at.nobody-next.ensures),
-    (let at : tie.After-capacity-capacity = search in at.capacity.ensures.0),
-    (let at : tie.After-first-step = search in at.first.ensures.0),
+    (let at : tie.After-capacity-capacity = search in at.capacity-capacity.ensures.0),
+    (let at : tie.After-first-step = search in at.first-step.ensures.0),
   ),
   search rules,
 )

@@ -36,4 +36,4 @@ post_holiday_spec =
     (λ c. let d : tie.After-day_named-d = search in let n : tie.After-refusal-n = search in refuses _ _ _ _ d.day_named-d.ensures (n.refusal-n.ensures _ refl refl) _ c.answered.ensures (search))
     (λ c κs. let s : tie.Start = search in let n : tie.After-refusal-n = search in has_room s.args.l _ (sym (n.refusal-n.ensures s.args.l refl refl) ∙ search))
     (search rules)
-    (λ c. let d : tie.After-day_named-d = search in let n : tie.After-refusal-n = search in let h : tie.After-naming-holidays = search in holds _ _ _ _ d.day_named-d.ensures (n.refusal-n.ensures _ refl refl) _ _ h.naming-holidays.ensures c.answered2.ensures (search)))
+    (λ c. let d : tie.After-day_named-d = search in let n : tie.After-refusal-n = search in let h : tie.After-naming-holidays = search in holds _ _ _ _ d.day_named-d.ensures (n.refusal-n.ensures _ refl refl) _ _ h.naming-holidays.ensures c.answered-2.ensures (search)))

@@ -25,7 +25,7 @@ invariant-loop l figure₀ i₀ figure i =
 abbrev decreases-loop : tie.decreases-loop-i
 decreases-loop l figure₀ i₀ figure i = 16 - i
 
-sixteen : (s : tie.Start invariant-loop decreases-loop) → length s.args.t1.accounts ≡ 16
+sixteen : (s : tie.Start invariant-loop decreases-loop) → length s.args.l.accounts ≡ 16
 sixteen s = search (rules, length-mapped)
 
 one-bank : (c : tie.After-open_bank-bank invariant-loop decreases-loop) → size c.open_bank-bank.result ≤ 100000000000
@@ -33,12 +33,12 @@ unfolding nobody noTotals noMonth noToday accountAt
 one-bank c =
     let s : tie.Start invariant-loop decreases-loop = search in
     let v : tie.At-loop-i invariant-loop decreases-loop = search in
-    omega (arith, c.open_bank-bank.ensures.1, (bounded (accountAt s.args.t1 v.loop-i.i) (account-ranged s.args.t1 v.loop-i.i (sixteen s) (omega arith) s.requires)).bank)
+    omega (arith, c.open_bank-bank.ensures.1, (bounded (accountAt s.args.l v.loop-i.i) (account-ranged s.args.l v.loop-i.i (sixteen s) (omega arith) s.requires)).bank)
 
 loop-holds : tie.Need-loop-i-init invariant-loop decreases-loop
 loop-holds c =
     let s : tie.Start invariant-loop decreases-loop = search in
-    (search rules, rw (c.nothing-figure.ensures, nothing-value) (+ℤ_idl (openBanks s.args.t1.accounts)), rw c.nothing-figure.ensures (omega (arith, size-nothing)))
+    (search rules, rw (c.nothing-figure.ensures, nothing-value) (+ℤ_idl (openBanks s.args.l.accounts)), rw c.nothing-figure.ensures (omega (arith, size-nothing)))
 
 loop-again : tie.Need-loop-i-preserved invariant-loop decreases-loop
 unfolding nobody noTotals noMonth noToday
@@ -48,7 +48,7 @@ loop-again c =
     let b : tie.After-open_bank-bank invariant-loop decreases-loop = search in (
       omega arith,
       rw (c.plus-figure.ensures.0, sum-value v.loop-i.figure b.open_bank-bank.result, b.open_bank-bank.ensures.0)
-          (sym (banks-next s.args.t1.accounts v.loop-i.i nobody v.loop-i.figure.0 (omega (arith, sixteen s))) ∙ v.loop-i.invariant.1),
+          (sym (banks-next s.args.l.accounts v.loop-i.i nobody v.loop-i.figure.0 (omega (arith, sixteen s))) ∙ v.loop-i.invariant.1),
       omega (arith, one-bank b),
     )
 
@@ -56,7 +56,7 @@ returns : tie.Need-returns invariant-loop decreases-loop
 returns c =
     let s : tie.Start invariant-loop decreases-loop = search in
     let v : tie.At-loop-i invariant-loop decreases-loop = search in
-    sym (banks-end s.args.t1.accounts v.loop-i.i v.loop-i.figure.0 (omega (arith, sixteen s))) ∙ v.loop-i.invariant.1
+    sym (banks-end s.args.l.accounts v.loop-i.i v.loop-i.figure.0 (omega (arith, sixteen s))) ∙ v.loop-i.invariant.1
 
 pub open_banks_spec : {M : Type 1} → statement M
 open_banks_spec =

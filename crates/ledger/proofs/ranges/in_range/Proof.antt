@@ -17,7 +17,7 @@ invariant-loop l held_fit ok₀ i₀ ok i = (i ≤ 16) × (ok && everyAccount ac
 abbrev decreases-loop : tie.decreases-loop-i
 decreases-loop l held_fit ok₀ i₀ ok i = 16 - i
 
-sixteen : (s : tie.Start invariant-loop decreases-loop) → length s.args.t1.accounts ≡ 16
+sixteen : (s : tie.Start invariant-loop decreases-loop) → length s.args.l.accounts ≡ 16
 sixteen s = search (rules, length-mapped)
 
 loop-holds : tie.Need-loop-i-init invariant-loop decreases-loop
@@ -31,14 +31,14 @@ loop-again c =
     let v : tie.At-loop-i invariant-loop decreases-loop = search in (
       omega arith,
       rw (let at : tie.After-account_in_range-one invariant-loop decreases-loop = search in at.account_in_range-one.ensures)
-          (sym (every-next accountInRange s.args.t1.accounts v.loop.i nobody v.loop.ok (omega (arith, sixteen s))) ∙ v.loop.invariant.1),
+          (sym (every-next accountInRange s.args.l.accounts v.loop-i.i nobody v.loop-i.ok (omega (arith, sixteen s))) ∙ v.loop-i.invariant.1),
     )
 
 returns : tie.Need-returns invariant-loop decreases-loop
 returns c =
     let s : tie.Start invariant-loop decreases-loop = search in
     let v : tie.At-loop-i invariant-loop decreases-loop = search in
-    sym (every-end accountInRange s.args.t1.accounts v.loop.i v.loop.ok (omega (arith, sixteen s))) ∙ v.loop.invariant.1
+    sym (every-end accountInRange s.args.l.accounts v.loop-i.i v.loop-i.ok (omega (arith, sixteen s))) ∙ v.loop-i.invariant.1
 
 mul-a : tie.Need-overflow-mul-a invariant-loop decreases-loop
 mul-a c = search rules
