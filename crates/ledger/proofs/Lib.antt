@@ -8,6 +8,7 @@ pub mod Admitted
 pub mod OneAccount
 pub mod Closable
 pub mod Banks
+pub mod ClosedSoFar
 pub mod ClosedAccounts
 pub mod OneStep
 pub mod NamedDays

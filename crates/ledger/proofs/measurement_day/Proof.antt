@@ -32,4 +32,4 @@ module _ (l : Ledger) (year month : ℕ) (fits : Bool) (f : fits ≡ in_range l)
   found r e z = rw (← f, not-false (fits && exists year month) z) e
 
 pub measurement_day_spec : {M : Type 1} → statement M
-measurement_day_spec = tie.close (tie.spec (λ c κs. search rules) (λ c. search none) (λ c κs. let s : tie.Start = search in let f : tie.After-in_range-fits = search in in-calendar s.args.year s.args.month f.in-range.result (search)) (λ c. search found))
+measurement_day_spec = tie.close (tie.spec (λ c κs. search rules) (λ c. search none) (λ c κs. let s : tie.Start = search in let f : tie.After-in_range-fits = search in in-calendar s.args.year s.args.month f.in_range-fits.result (search)) (λ c. search found))

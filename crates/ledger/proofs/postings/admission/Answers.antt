@@ -15,8 +15,7 @@ use Rattle.ledger.specs.Ranges.{in_range}
 use Rattle.ledger.specs.Days.{wrongDay}
 use Rattle.ledger.specs.Posting.{admission, standingChecks}
 use Rattle.ledger.specs.State.{heldIn}
-use Rattle.ledger.proofs.postings.admission.Statement.{statement}
-use Rattle.ledger.proofs.postings.admission.Tie as tie
+use Rattle.ledger.proofs.postings.admission.Goals as goal
 
 module _ (fits begun touched new : Bool) (today : Date) (held : Holidays) (e : Entry) (n : ℕ) (p : n ≡ entryNumber new e) (l : Ledger)
     (f : in_range l ≡ fits) (b : l.begun ≡ begun) (t : l.touched ≡ touched) (i : l.is_new ≡ new) (d : l.date ≡ today) (h : l.holidays ≡ held) where
@@ -36,14 +35,12 @@ module _ (fits begun touched new : Bool) (today : Date) (held : Holidays) (e : E
 dated : (new : Bool) (e : Entry) (n : ℕ) → n ≡ entryNumber new e → n ≡ 0 → real e.date ≡ true
 dated new e n p z = is_real e (own-right new e (sym p ∙ z))
 
-wrong-day-requires : tie.Need-wrong_day-wrong-requires
-wrong-day-requires c κs = search dated
+pub wrong_day-wrong-requires : goal.wrong_day-wrong-requires
+wrong_day-wrong-requires c = search dated
 
-returns : tie.Need-returns
-returns c l f b t i d h = search wrong
+pub returns-then-n-ne0 : goal.returns-then-n-ne0
+returns-then-n-ne0 c l f b t i d h = search wrong
 
-returns-2 : tie.Need-returns
-returns-2 c l f b t i d h = search judged
-
-pub admission_spec : {M : Type 1} → statement M
-admission_spec = tie.close (search (rules, tie.spec, wrong-day-requires, returns, returns-2))
+pub returns : goal.returns
+returns c l f b t i d h =
+    judged _ _ _ _ _ _ _ _ c.number_of-n.ensures l f b t i d h c.if-n-ne0.false _ _ _ _ _ _ c.refuse-4.ensures c.refuse-3.ensures c.refuse-2.ensures c.refuse.ensures c.wrong_day-wrong.ensures c.same.ensures

@@ -1,0 +1,22 @@
+-- The account is in range and the cash is small, so no sum of the day's end leaves its type.
+use native.Mathlib.Omega.{arith}
+use Rattle.ledger.proofs.Bounded.{Bounded, bounded}
+use Rattle.ledger.specs.Closing.{dayEnd}
+use Rattle.ledger.specs.State.{withBank, withDays, withExcuse, withMonth, withToday, withTotals}
+use Rattle.ledger.proofs.closing.day_end.Goals as goal
+
+pub plus-bank-requires : goal.plus-bank-requires
+plus-bank-requires c = omega (arith, bounded c.args.a c.requires.0)
+
+pub with_cash-cashed-requires : goal.with_cash-cashed-requires
+with_cash-cashed-requires c = let b = bounded c.args.a c.requires.0 in search b
+
+pub excused_still-excused-requires : goal.excused_still-excused-requires
+excused_still-excused-requires c = (bounded c.args.a c.requires.0).bcq
+
+pub days-days-requires : goal.days-days-requires
+days-days-requires c = (bounded c.args.a c.requires.0).days
+
+pub returns : goal.returns
+unfolding dayEnd withToday withDays withExcuse withTotals withMonth withBank
+returns c = rw (c.days-days.ensures, c.no_today-today.ensures, c.excused_still-excused.ensures, c.with_cash-cashed.ensures, c.plus-bank.ensures.value)

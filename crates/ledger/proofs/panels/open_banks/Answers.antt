@@ -1,0 +1,48 @@
+-- A bank joins the figure and leaves those still to come; each is in range, and at the end none is left.
+use borrow.Author.Rules.{rules}
+use native.Mathlib.Omega.{arith}
+use mathlib.Core.Path.{◌∙◌, ◌≡◌, sym}
+use Prim.Native.Nat.{◌≤◌}
+use lib.IntN.{+ℤ_idl}
+use lib.ListN.{length}
+use Rattle.ledger.proofs.Banks.{banks-end, banks-next}
+use Rattle.ledger.proofs.Bounded.{account-ranged, bounded}
+use Rattle.ledger.proofs.Lists.{length-mapped}
+use Rattle.ledger.specs.Panel.{openBanks}
+use Rattle.ledger.specs.State.{accountAt, noMonth, noToday, noTotals, nobody}
+use Rattle.tariff.proofs.Laws.{nothing-value, sum-value}
+use Rattle.tariff.proofs.Sizes.{size-nothing}
+use Rattle.tariff.specs.Amounts.{size}
+use Rattle.ledger.proofs.panels.open_banks.Goals as goal
+
+one-bank : (c : goal.After-open_bank-bank) → size c.open_bank-bank.result ≤ 100000000000
+unfolding nobody noTotals noMonth noToday accountAt
+one-bank c =
+    let sixteen : length c.args.l.accounts ≡ 16 = search (rules, length-mapped) in
+    omega (arith, c.open_bank-bank.ensures.bounded, (bounded (accountAt c.args.l c.loop-i.i) (account-ranged c.args.l c.loop-i.i sixteen (omega arith) c.requires)).bank)
+
+pub plus-figure-requires : goal.plus-figure-requires
+plus-figure-requires c = omega (arith, one-bank c, c.loop-i.invariant.small)
+
+pub loop-i-init : goal.loop-i-init
+loop-i-init c =
+    record {
+      whole = rw (c.nothing-figure.ensures, nothing-value) (+ℤ_idl (openBanks c.args.l.accounts));
+      small = rw c.nothing-figure.ensures (omega (arith, size-nothing));
+    }
+
+pub loop-i-preserved : goal.loop-i-preserved
+unfolding nobody noTotals noMonth noToday
+loop-i-preserved c =
+    let sixteen : length c.args.l.accounts ≡ 16 = search (rules, length-mapped) in
+    record {
+      whole =
+          rw (c.plus-figure.ensures.value, sum-value c.loop-i.figure c.open_bank-bank.result, c.open_bank-bank.ensures.result_value)
+          (sym (banks-next c.args.l.accounts c.loop-i.i nobody c.loop-i.figure.0 (omega (arith, sixteen))) ∙ c.loop-i.invariant.whole);
+      small = omega (arith, c.plus-figure.ensures.bounded, one-bank (search), c.loop-i.invariant.small);
+    }
+
+pub returns : goal.returns
+returns c =
+    let sixteen : length c.args.l.accounts ≡ 16 = search (rules, length-mapped) in
+    sym (banks-end c.args.l.accounts c.loop-i.i c.loop-i.figure.0 (omega (arith, sixteen))) ∙ c.loop-i.invariant.whole

@@ -1,0 +1,15 @@
+-- One account after the other: the figure so far and the banks still to come are the whole sum; each bank is in range, so the figure stays small.
+use Prim.Native.Nat.{◌*◌, ◌≤◌}
+use mathlib.Core.Path.{◌≡◌}
+use lib.IntN.{◌+ℤ◌}
+use lib.ListN.{drop}
+use Rattle.ledger.specs.Panel.{openBanks}
+use Rattle.tariff.specs.Amounts.{size}
+use Rattle.ledger.proofs.panels.open_banks.Given as goal
+
+abbrev pub invariant-loop-i : goal.invariant-loop-i
+invariant-loop-i l =
+    record {
+      whole : l.figure.0 +ℤ openBanks (drop l.i l.l.accounts) ≡ openBanks l.l.accounts;
+      small : size l.figure ≤ 100000000000 * l.i;
+    }

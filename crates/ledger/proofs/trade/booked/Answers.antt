@@ -1,0 +1,20 @@
+-- The account is in range and the amount is small, so the month's total does not leave its type.
+use native.Mathlib.Omega.{arith}
+use Rattle.ledger.proofs.Bounded.{bounded}
+use Rattle.ledger.specs.State.{withMonth, withTotals}
+use Rattle.ledger.specs.Trade.{booked, withTrade}
+use Rattle.ledger.proofs.trade.booked.Goals as goal
+
+pub plus-sales-requires : goal.plus-sales-requires
+plus-sales-requires c = omega (arith, bounded c.args.a c.requires.0)
+
+pub plus-purchases-requires : goal.plus-purchases-requires
+plus-purchases-requires c = omega (arith, bounded c.args.a c.requires.0)
+
+pub returns-then-sells : goal.returns-then-sells
+unfolding booked withMonth withTotals withTrade
+returns-then-sells c = rw (c.plus-sales.ensures, c.if-sells.true)
+
+pub returns : goal.returns
+unfolding booked withMonth withTotals withTrade
+returns c = rw (c.plus-purchases.ensures, c.if-sells.false)
