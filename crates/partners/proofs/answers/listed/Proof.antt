@@ -21,10 +21,10 @@ module _ (partners : List Partner) (k : ℕ) (accounts : List ℕ) (e : accounts
       → ◌≡◌ {A = PartnerList} (record { number = 0; count = count; accounts = accounts }) (record { number = 0; count = count; accounts = map number_of partners })
   all_there count h = ap (λ (xs : List ℕ). record { number = 0; count = count; accounts = xs }) (e ∙ filled-end number_of partners (replicate 16 0) k (omega arith) (omega arith))
 
-abbrev invariant-loop : tie.invariant-loop
+abbrev invariant-loop : tie.invariant-loop-k
 invariant-loop places partners accounts₀ k₀ accounts k = (k ≤ 16) × (accounts ≡ filled number_of partners (replicate 16 0) k)
 
-abbrev decreases-loop : tie.decreases-loop
+abbrev decreases-loop : tie.decreases-loop-k
 decreases-loop places partners accounts₀ k₀ accounts k = 16 - k
 
 pub listed_spec : {M : Type 1} → statement M
@@ -32,5 +32,5 @@ listed_spec =
     tie.close
     (tie.spec invariant-loop decreases-loop
     (λ c. search rules) (λ c. omega arith) (λ c. omega arith) (λ c. omega arith) (λ c. omega arith) (λ c. omega arith) (λ c. omega arith)
-    (λ c. let s : tie.Start invariant-loop decreases-loop = search in let at : tie.At-loop invariant-loop decreases-loop = search in (omega arith, one_more s.args.places.partners at.loop.k _ at.loop.invariant.1 (search (rules, length-mapped)) _ (search)))
-    (λ c. let s : tie.Start invariant-loop decreases-loop = search in let at : tie.At-loop invariant-loop decreases-loop = search in all_there s.args.places.partners at.loop.k _ at.loop.invariant.1 (search (rules, length-mapped)) _ (search)))
+    (λ c. let s : tie.Start invariant-loop decreases-loop = search in let at : tie.At-loop-k invariant-loop decreases-loop = search in (omega arith, one_more s.args.places.partners at.loop-k.k _ at.loop-k.invariant.1 (search (rules, length-mapped)) _ (search)))
+    (λ c. let s : tie.Start invariant-loop decreases-loop = search in let at : tie.At-loop-k invariant-loop decreases-loop = search in all_there s.args.places.partners at.loop-k.k _ at.loop-k.invariant.1 (search (rules, length-mapped)) _ (search)))
