@@ -100,7 +100,7 @@ fn fill_section(out: &mut [u8], section: &[u8])
     requires { length section.now ≤ length out.old }
     ensures { out.new ≡ section.now ++ drop (length section.now) out.old }
 {
-    bytes::copy(section, out);
+    out[..section.len()].copy_from_slice(section);
 }
 
 // The sections one by one, each at its own offset of the output (R70).

@@ -38,7 +38,7 @@ module _ (a : List ℕ) (i : ℕ) (c : Checked) (p : c ≡ checked a) where
       unfolding pair_at
       within = rw (e, f) (pair_held a i (checked-tells a (cc)).directed (omega arith)).within
 
-module _ (c : tie.After-check) (z : c.check.result.number ≡ 0) where
+module _ (c : tie.After-check-c) (z : c.check-c.result.number ≡ 0) where
   start : tie.Start
   start = search
 

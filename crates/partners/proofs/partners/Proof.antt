@@ -32,11 +32,11 @@ partners_spec =
     (λ c κs.
     let s : tie.Start = search in
     let at : tie.After-number-n = search in
-    let h : verdict (partnerChecks s.args.ledger s.args.seller s.args.quantity) ≡ 0 = sym at.number.ensures ∙ c.if1.false in
+    let h : verdict (partnerChecks s.args.ledger s.args.seller s.args.quantity) ≡ 0 = sym at.number-n.ensures ∙ c.if-n-ne0.false in
     (is-ranged _ _ _ h, in_reach _ _ _ h, (some_fit _ _ _ h).1))
     (search rules)
     (λ c.
     let at : tie.After-number-n = search in
     let found : tie.After-partners_in-places = search in
-    let none : tie.Else1 = search in
-    with-partners _ _ _ _ at.number.ensures _ _ _ c.listed.ensures found.partners-in.ensures.0 found.partners-in.ensures.1 none.if1.left))
+    let none : tie.Else-n-ne0 = search in
+    with-partners _ _ _ _ at.number-n.ensures _ _ _ c.listed.ensures found.partners_in-places.ensures.0 found.partners_in-places.ensures.1 none.if-n-ne0.false))

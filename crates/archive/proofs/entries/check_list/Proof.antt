@@ -20,10 +20,10 @@ record Rest (new : Bool) (s : List ℕ) (n k : ℕ) : Type 0 where
   all : n ≡ length s / 32
   same : firstRefusal k (map (formNumber new) (firstEntries (n - k) (drop (32 * k) s))) ≡ listChecked new s
 
-abbrev invariant-loop : tie.invariant-loop
+abbrev invariant-loop : tie.invariant-loop-k
 invariant-loop new list n k₀ k = Rest new list n k
 
-abbrev decreases-loop : tie.decreases-loop
+abbrev decreases-loop : tie.decreases-loop-k
 decreases-loop new list n k₀ k = n - k
 
 at_first : (new : Bool) (s : List ℕ) → Rest new s (length s / 32) 0

@@ -6,7 +6,7 @@ use Rattle.archive.proofs.opening.opens_as.Tie as tie
 
 returns : tie.Need-returns
 unfolding opensAs
-returns c = let at : tie.After-fourth-byte = search in rw at.fourth-byte.ensures
+returns c = let at : tie.After-fourth_byte-fourth = search in rw at.fourth_byte-fourth.ensures
 
 pub opens_as_spec : {M : Type 1} → statement M
 opens_as_spec =

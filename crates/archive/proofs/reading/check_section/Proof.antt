@@ -21,10 +21,10 @@ record Rest (new : Bool) (s : List ℕ) (first : ℕ) (last : Bool) (n k : ℕ) 
   all : n ≡ length s / 32
   same : firstRefusal (first + k) (numbersIn new last (firstEntries (n - k) (drop (32 * k) s))) ≡ firstRefusal first (numbersIn new last (entriesOf s))
 
-abbrev invariant-loop : tie.invariant-loop
+abbrev invariant-loop : tie.invariant-loop-k
 invariant-loop new section first last n k₀ k = Rest new section first last n k
 
-abbrev decreases-loop : tie.decreases-loop
+abbrev decreases-loop : tie.decreases-loop-k
 decreases-loop new section first last n k₀ k = n - k
 
 at_first : (new : Bool) (s : List ℕ) (first : ℕ) (last : Bool) → Rest new s first last (length s / 32) 0

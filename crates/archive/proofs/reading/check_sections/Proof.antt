@@ -26,10 +26,10 @@ record Rest (new : Bool) (a : List ℕ) (n first i : ℕ) : Type 0 where
   small : first ≤ 134217728 * i
   same : firstRefusal first (numbersOf new (map (part_at a) (pairsFrom a i (n - i)))) ≡ firstRefusal 0 (numbersOf new (parts_of a))
 
-abbrev invariant-loop : tie.invariant-loop
+abbrev invariant-loop : tie.invariant-loop-i
 invariant-loop new archive count first₀ i₀ first i = Rest new archive count first i
 
-abbrev decreases-loop : tie.decreases-loop
+abbrev decreases-loop : tie.decreases-loop-i
 decreases-loop new archive count first₀ i₀ first i = count - i
 
 sizes : (s : tie.Start invariant-loop decreases-loop) → Measured s.args.archive.now

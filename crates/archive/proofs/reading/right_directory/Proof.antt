@@ -23,10 +23,10 @@ record Rest (a : List ℕ) (n end i : ℕ) : Type 0 where
   small : end ≤ 9608 + 4294967296 * i
   same : rightPairs (length a) end (pairsFrom a i (n - i)) ≡ rightDirectory a
 
-abbrev invariant-loop : tie.invariant-loop
+abbrev invariant-loop : tie.invariant-loop-i
 invariant-loop archive count end₀ i₀ end i = Rest archive count end i
 
-abbrev decreases-loop : tie.decreases-loop
+abbrev decreases-loop : tie.decreases-loop-i
 decreases-loop archive count end₀ i₀ end i = count - i
 
 sizes : (s : tie.Start invariant-loop decreases-loop) → Measured s.args.archive.now

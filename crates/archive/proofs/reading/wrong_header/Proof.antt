@@ -15,12 +15,12 @@ too_short : (a : List ℕ) → length a < 8 → true ≡ wrongHeader a
 unfolding wrongHeader
 too_short a h = rw (lt-ltb (length a) 8 h)
 
-returns-2 : tie.Need-returns-2
+returns-2 : tie.Need-returns
 unfolding wrongHeader rightOpening body_at
 returns-2 c =
     let s : tie.Start = search in
-    let n : tie.After-section-count = search in
-    let old : tie.After-opens-as = search in
+    let n : tie.After-section_count-count = search in
+    let old : tie.After-opens_as = search in
     let new : tie.After-opens-as2 = search in
     rw (old.opens_as.ensures, new.opens-as2.ensures, n.section-count.ensures.0, le-ltb (length s.args.archive.now) 8 (search))
 

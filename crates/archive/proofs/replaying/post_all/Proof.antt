@@ -27,10 +27,10 @@ record Rest (new : Bool) (s : List ℕ) (n : ℕ) (l : Ledger) (accepted refused
   refuses : refused + count_of asRefused (history l (left n k s l)) ≡ count_of asRefused (history (fresh new) (entriesOf s))
   same : run l (left n k s l) ≡ run (fresh new) (entriesOf s)
 
-abbrev invariant-loop : tie.invariant-loop
+abbrev invariant-loop : tie.invariant-loop-k
 invariant-loop new list found n ledger₀ accepted₀ refused₀ k₀ ledger accepted refused k = Rest new list n ledger accepted refused k
 
-abbrev decreases-loop : tie.decreases-loop
+abbrev decreases-loop : tie.decreases-loop-k
 decreases-loop new list found n ledger₀ accepted₀ refused₀ k₀ ledger accepted refused k = n - k
 
 at_first : (new : Bool) (s : List ℕ) (l : Ledger) → l ≡ fresh new → Rest new s (length s / 32) l 0 0 0
@@ -84,4 +84,4 @@ post_all_spec =
     (λ c. search rules)
     (λ c. search rules)
     (λ c. search one-posted)
-    (λ c. let v : tie.At-loop invariant-loop decreases-loop = search in let e = all-posted _ _ _ _ _ _ _ v.loop.invariant (search) in ((refl, refl), (e.0, (e.1, e.2)))))
+    (λ c. let v : tie.At-loop-k invariant-loop decreases-loop = search in let e = all-posted _ _ _ _ _ _ _ v.loop-k.invariant (search) in ((refl, refl), (e.0, (e.1, e.2)))))

@@ -19,10 +19,10 @@ record Rest (s : List ℕ) (n at count : ℕ) : Type 0 where
   small : count ≤ at
   same : count + length (sectionsOf (entriesOf (drop at s))) ≡ length (sectionsOf (entriesOf s))
 
-abbrev invariant-loop : tie.invariant-loop
+abbrev invariant-loop : tie.invariant-loop-at
 invariant-loop list n at₀ count₀ at count = Rest list n at count
 
-abbrev decreases-loop : tie.decreases-loop
+abbrev decreases-loop : tie.decreases-loop-at
 decreases-loop list n at₀ count₀ at count = n - at
 
 at_first : (s : List ℕ) → Rest s (length s) 0 0

@@ -18,10 +18,10 @@ record Rest (s : List ℕ) (n k : ℕ) : Type 0 where
   all : n ≡ length s / 32
   same : 32 * k + 32 * lead (firstEntries (n - k) (drop (32 * k) s)) ≡ 32 * lead (entriesOf s)
 
-abbrev invariant-loop : tie.invariant-loop
+abbrev invariant-loop : tie.invariant-loop-k
 invariant-loop list n k₀ k = Rest list n k
 
-abbrev decreases-loop : tie.decreases-loop
+abbrev decreases-loop : tie.decreases-loop-k
 decreases-loop list n k₀ k = n - k
 
 at_first : (s : List ℕ) → Rest s (length s / 32) 0

@@ -61,4 +61,4 @@ noted_spec =
     (λ c. omega (arith, c.shared-slice-known2.given 6))
     (λ c κs. search rules)
     (λ c κs. search rules)
-    (λ c. let g : tie.After-gas-month = search in c.with-column.ensures ∙ column (search) (eqb g.gas-month.result) (search this-year)))
+    (λ c. let g : tie.After-gas_month = search in c.with-column.ensures ∙ column (search) (eqb g.gas-month.result) (search this-year)))

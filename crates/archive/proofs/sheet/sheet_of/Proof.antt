@@ -24,10 +24,10 @@ record Rest (new : Bool) (s : List ℕ) (year n : ℕ) (l : Ledger) (sheet : Lis
   cells : sheet ≡ grid (cell_at sheet)
   same : sheetAfter year sheet l (firstEntries (n - k) (drop (32 * k) s)) ≡ grid (λ i m. cellAfter year i m noBank (fresh new) (entriesOf s))
 
-abbrev invariant-loop : tie.invariant-loop
+abbrev invariant-loop : tie.invariant-loop-k
 invariant-loop new list year n ledger₀ sheet₀ k₀ ledger sheet k = Rest new list year n ledger sheet k
 
-abbrev decreases-loop : tie.decreases-loop
+abbrev decreases-loop : tie.decreases-loop-k
 decreases-loop new list year n ledger₀ sheet₀ k₀ ledger sheet k = n - k
 
 at_first : (new : Bool) (s : List ℕ) (year : ℕ) (l : Ledger) (sheet : List (List Units)) → l ≡ fresh new → sheet ≡ grid (λ i m. noBank) → Rest new s year (length s / 32) l sheet 0
@@ -77,4 +77,4 @@ sheet_of_spec =
     (λ c. search rules)
     (λ c. search rules)
     (λ c. search one-noted)
-    (λ c. let v : tie.At-loop invariant-loop decreases-loop = search in all_noted _ _ _ _ _ _ _ v.loop.invariant (search)))
+    (λ c. let v : tie.At-loop-k invariant-loop decreases-loop = search in all_noted _ _ _ _ _ _ _ v.loop.invariant (search)))

@@ -20,10 +20,10 @@ record Filled (l : Ledger) (month : ℕ) (sheet next : List (List Units)) (i : �
   within : i ≤ 16
   same : next ≡ grid (filled (bankIn l) (cell_at sheet) month i)
 
-abbrev invariant-loop : tie.invariant-loop
+abbrev invariant-loop : tie.invariant-loop-i
 invariant-loop ledger month next₀ i₀ next i = Filled ledger month next₀ next i
 
-abbrev decreases-loop : tie.decreases-loop
+abbrev decreases-loop : tie.decreases-loop-i
 decreases-loop ledger month next₀ i₀ next i = 16 - i
 
 at_first : (l : Ledger) (month : ℕ) (sheet : List (List Units)) → sheet ≡ grid (cell_at sheet) → Filled l month sheet sheet 0
@@ -58,4 +58,4 @@ with_column_spec =
     (λ c. search rules)
     (λ c. search rules)
     (λ c. search row-filled)
-    (λ c. let v : tie.At-loop invariant-loop decreases-loop = search in all-filled _ _ _ _ _ v.loop.invariant (search)))
+    (λ c. let v : tie.At-loop-i invariant-loop decreases-loop = search in all-filled _ _ _ _ _ v.loop-i.invariant (search)))

@@ -26,9 +26,9 @@ planned : (s : tie.Start) → Planned s.args.list.now (length s.args.out.now)
 planned s =
     let list = s.args.list.now in
     let room = length s.args.out.now in
-    let w = written-tells s.args.is-new list room s.requires in
-    let size = length-archive s.args.is-new list w.whole in
-    record { whole = w.whole; few = w.few; short = omega (arith, w); fits = omega (arith, written-fits s.args.is-new list room s.requires) }
+    let w = written-tells s.args.is_new list room s.requires in
+    let size = length-archive s.args.is_new list w.whole in
+    record { whole = w.whole; few = w.few; short = omega (arith, w); fits = omega (arith, written-fits s.args.is_new list room s.requires) }
 
 -- what each finds
 module _ (new : Bool) (list d x : List ℕ) (n : ℕ) (w : Planned list (length d)) (e : n ≡ length (sectionsOf (entriesOf list))) (hx : x ≡ paste d 0 (header new n) 8) where

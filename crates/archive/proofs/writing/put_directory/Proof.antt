@@ -25,10 +25,10 @@ record Rest (d s x : List ℕ) (count n at done : ℕ) : Type 0 where
   left : drop done (directory (body_at count) (sectionsOf (entriesOf s))) ≡ directory (8 + 8 * count + at) (sectionsOf (entriesOf (drop at s)))
   counted : done + 8 * length (sectionsOf (entriesOf (drop at s))) ≡ 8 * count
 
-abbrev invariant-loop : tie.invariant-loop
+abbrev invariant-loop : tie.invariant-loop-at
 invariant-loop out₀ list count n body at₀ done₀ out at done = Rest out₀ list out count n at done
 
-abbrev decreases-loop : tie.decreases-loop
+abbrev decreases-loop : tie.decreases-loop-at
 decreases-loop out₀ list count n body at₀ done₀ out at done = n - at
 
 at_first : (d s : List ℕ) (count : ℕ) → count ≡ length (sectionsOf (entriesOf s)) → Rest d s d count (length s) 0 0

@@ -15,9 +15,9 @@ unfolding header bytes_of
 returns c =
     let s : tie.Start = search in
     let n = s.args.count in
-    let fourth : tie.After-fourth-byte = search in
-    rw fourth.fourth-byte.ensures
-    (sets-eq (openingBytes s.args.is-new ++ n % 256 ∷ n / 256 % 256 ∷ 0 ∷ 0 ∷ []) s.args.out.now 0 (omega arith))
+    let fourth : tie.After-fourth_byte-fourth = search in
+    rw fourth.fourth_byte-fourth.ensures
+    (sets-eq (openingBytes s.args.is_new ++ n % 256 ∷ n / 256 % 256 ∷ 0 ∷ 0 ∷ []) s.args.out.now 0 (omega arith))
 
 pub put_header_spec : {M : Type 1} → statement M
 put_header_spec =

@@ -19,10 +19,10 @@ record Rest (d s x : List ℕ) (body n at : ℕ) : Type 0 where
   copied : x ≡ paste d body s at
   long : length x ≡ length d
 
-abbrev invariant-loop : tie.invariant-loop
+abbrev invariant-loop : tie.invariant-loop-at
 invariant-loop out₀ list body n at₀ out at = Rest out₀ list out body n at
 
-abbrev decreases-loop : tie.decreases-loop
+abbrev decreases-loop : tie.decreases-loop-at
 decreases-loop out₀ list body n at₀ out at = n - at
 
 at_first : (d s : List ℕ) (body : ℕ) → Rest d s d body (length s) 0
@@ -62,7 +62,7 @@ module _ (c : tie.After-first-section invariant-loop decreases-loop) where
   unfolding start loop
   found = search (first-at, arith)
 
-loop-again : tie.Need-loop-preserved invariant-loop decreases-loop
+loop-again : tie.Need-loop-at-preserved invariant-loop decreases-loop
 unfolding start loop
 loop-again c =
     let g : tie.After-first-section invariant-loop decreases-loop = search in
