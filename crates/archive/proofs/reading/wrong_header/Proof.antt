@@ -21,8 +21,8 @@ returns-2 c =
     let s : tie.Start = search in
     let n : tie.After-section_count-count = search in
     let old : tie.After-opens_as = search in
-    let new : tie.After-opens-as2 = search in
-    rw (old.opens_as.ensures, new.opens-as2.ensures, n.section-count.ensures.0, le-ltb (length s.args.archive.now) 8 (search))
+    let new : tie.After-opens_as-2 = search in
+    rw (old.opens_as.ensures, new.opens_as-2.ensures, n.section_count-count.ensures.0, le-ltb (length s.args.archive.now) 8 (search))
 
 pub wrong_header_spec : {M : Type 1} → statement M
 wrong_header_spec =

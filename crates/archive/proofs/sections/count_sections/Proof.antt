@@ -38,14 +38,14 @@ module _ (s : List ℕ) (n at count : ℕ) (r : Rest s n at count) where
   passed size f next more u v =
       rw (u, v) (record { within = omega (arith, r); all = r.all; multiple = omega (arith, r); small = omega (arith, r); same = omega (arith, r) })
 
-module _ (c : tie.After-first-section invariant-loop decreases-loop) where
+module _ (c : tie.After-first_section-size invariant-loop decreases-loop) where
   start : tie.Start invariant-loop decreases-loop
   start = search
 
-  loop : tie.At-loop invariant-loop decreases-loop
+  loop : tie.At-loop-at invariant-loop decreases-loop
   loop = search
 
-  found : FirstAt start.args.list.now loop.loop.at c.first-section.result
+  found : FirstAt start.args.list.now loop.loop-at.at c.first_section-size.result
   unfolding start loop
   found = search (first-at, arith)
 

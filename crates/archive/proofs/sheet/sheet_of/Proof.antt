@@ -77,4 +77,4 @@ sheet_of_spec =
     (λ c. search rules)
     (λ c. search rules)
     (λ c. search one-noted)
-    (λ c. let v : tie.At-loop-k invariant-loop decreases-loop = search in all_noted _ _ _ _ _ _ _ v.loop.invariant (search)))
+    (λ c. let v : tie.At-loop-k invariant-loop decreases-loop = search in all_noted _ _ _ _ _ _ _ v.loop-k.invariant (search)))

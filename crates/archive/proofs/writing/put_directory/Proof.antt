@@ -77,14 +77,14 @@ module _ (d s x : List ℕ) (count n at done : ℕ) (r : Rest d s x count n at d
           counted = omega (arith, r);
         })
 
-module _ (c : tie.After-first-section invariant-loop decreases-loop) where
+module _ (c : tie.After-first_section-size invariant-loop decreases-loop) where
   start : tie.Start invariant-loop decreases-loop
   start = search
 
-  loop : tie.At-loop invariant-loop decreases-loop
+  loop : tie.At-loop-at invariant-loop decreases-loop
   loop = search
 
-  found : FirstAt start.args.list.now loop.loop.at c.first-section.result
+  found : FirstAt start.args.list.now loop.loop-at.at c.first_section-size.result
   unfolding start loop
   found = search (first-at, arith)
 
