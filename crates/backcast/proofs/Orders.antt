@@ -1,5 +1,5 @@
 -- The order of integers is what a comparison of doubles asks of signs and sizes, and scaling by a number above 0 keeps it.
-use Prim.Native.Nat.{ℕ, zero, suc, ◌+◌, ◌-◌, ◌*◌, ◌<◌}
+use Prim.Native.Nat.{ℕ, zero, suc, ◌+◌, ◌*◌, ◌<◌}
 use native.Mathlib.Nat.{eq-or-lt_of_le, le_of_eq, le_of_lt, lt_of_mul-lt-mul_right, mul-lt-mul_of_pos_right, mul-pos}
 use native.Mathlib.Omega.{arith}
 use mathlib.Core.Bool.{Bool, true, false, not, ◌&&◌, ◌||◌}

@@ -1,6 +1,6 @@
 -- Two doubles that are numbers compare as their exact values do, each numerator taken times the other's denominator.
 use Prim.Native.Nat.{ℕ, ◌*◌, ◌<◌}
-use mathlib.Core.Bool.{Bool, true, false, true≢false}
+use mathlib.Core.Bool.{Bool, true, true≢false}
 use mathlib.Core.Path.{◌≡◌, sym, ap, ◌∙◌}
 use lib.IntN.{ℤ, pos, ◌*ℤ◌}
 use lib.Signed.{le_z, lt_z}

@@ -1,33 +1,38 @@
-// Words and figures on standard output, for the programs.
+// How the programs print an amount.
 #![tactic(auto)]
 
-use libc::STDOUT_FILENO;
+use std::fmt;
 use tariff::amounts::{Mills, Units};
 
-pub fn text(bytes: &[u8]) {
-    io::write_all(STDOUT_FILENO, bytes);
-}
-
-pub fn number(n: u64) {
-    io::print_decimal(STDOUT_FILENO, n);
-}
-
 // A number below zero has its size in `below`, any other in `above`.
-fn signed(above: u64, below: u64) {
-    if below == 0 {
-        number(above);
-        return;
-    }
-    text(b"-");
-    number(below);
+#[derive(Clone, Copy)]
+pub struct Figure {
+    above: u64,
+    below: u64,
 }
 
-pub fn units(a: Units) {
+impl fmt::Display for Figure {
+    fn fmt<W: fmt::Write>(&self, f: &mut fmt::Formatter<W>) -> fmt::Result {
+        let Figure { above, below } = *self;
+        if below == 0 {
+            return write!(f, "{above}");
+        }
+        write!(f, "-{below}")
+    }
+}
+
+pub fn units(a: Units) -> Figure {
     let above = a.inward();
     let below = a.outward();
-    signed(above.0, below.0);
+    Figure {
+        above: above.0,
+        below: below.0,
+    }
 }
 
-pub fn mills(m: Mills) {
-    signed(m.due(), m.credit());
+pub fn mills(m: Mills) -> Figure {
+    Figure {
+        above: m.due(),
+        below: m.credit(),
+    }
 }

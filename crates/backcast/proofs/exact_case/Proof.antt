@@ -1,5 +1,5 @@
 -- Below 2^53 the load of whole numbers is the integers' load, so that asking whether it is a quantity, and for its whole part, asks it of that.
-use Prim.Native.Nat.{ℕ, ◌*◌, ◌/◌, ◌≤◌, ◌^◌}
+use Prim.Native.Nat.{ℕ, ◌/◌, ◌≤◌}
 use native.Mathlib.Nat.{mul-div_cancel, zero-mul}
 use native.Mathlib.Omega.{arith}
 use mathlib.Core.Bool.{Bool, true, false, cond, ◌&&◌}
@@ -12,7 +12,7 @@ use lib.Ieee.{Float, binary64}
 use borrow.Author.Tests.{le-leb, le-ltb}
 use Rattle.tariff.proofs.Signed.{size-product}
 use Rattle.backcast.specs.Answers.{accepted, backCast, isQuantity, refused, wholePart}
-use Rattle.backcast.specs.Doubles.{is_number, denominator}
+use Rattle.backcast.specs.Doubles.{denominator}
 use Rattle.backcast.specs.ExactCase.{Exact, IsWhole, WholeNumbersAreDoubles, WholeNumbersAreExact, exactLoad}
 use Rattle.backcast.specs.Load.{allNumbers, load_of}
 use Rattle.backcast.specs.Structs.{LoadCurve}
