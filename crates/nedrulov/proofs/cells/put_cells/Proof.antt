@@ -36,32 +36,32 @@ cell-more sheet d x k e h r =
 cells-all : (sheet : List (List Units)) (d : List ℤ) → paste d 0 (cells_of sheet) 192 ≡ cells_of sheet ++ drop 192 d
 cells-all sheet d = ap (λ (l : List ℤ). l ++ drop 192 d) (take_all 192 (cells_of sheet) (omega (arith, length-cells sheet)))
 
-abbrev invariant-loop : tie.invariant-loop
+abbrev invariant-loop : tie.invariant-loop-k
 invariant-loop cells₀ sheet k₀ cells k = (k ≤ 192) × (length cells ≡ length cells₀) × (cells ≡ paste cells₀ 0 (cells_of sheet) k)
 
-abbrev decreases-loop : tie.decreases-loop
+abbrev decreases-loop : tie.decreases-loop-k
 decreases-loop cells₀ sheet k₀ cells k = 192 - k
 
-loop-holds : tie.Need-loop-init invariant-loop decreases-loop
-loop-holds c = (search rules, refl, paste-zero c.args.cells.now 0 (cells_of c.args.t1))
+loop-holds : tie.Need-loop-k-init invariant-loop decreases-loop
+loop-holds c = (search rules, refl, paste-zero c.args.cells.now 0 (cells_of c.args.sheet))
 
-loop-again : tie.Need-loop-preserved invariant-loop decreases-loop
+loop-again : tie.Need-loop-k-preserved invariant-loop decreases-loop
 loop-again c =
     let s : tie.Start invariant-loop decreases-loop = search in
-    let l : tie.At-loop invariant-loop decreases-loop = search in
-    let sheet = s.args.t1 in
-    let k = l.loop.k in
+    let l : tie.At-loop-k invariant-loop decreases-loop = search in
+    let sheet = s.args.sheet in
+    let k = l.loop-k.k in
     let z = (get_or (get_or sheet (k / 12) []) (k % 12) (record { 0 = pos 0 })).0 in
     let same : to_z w64 (of_z w64 z) ≡ z = search rules in
     let cell = ap (λ (u : Units). u.0) (cell-at sheet (k / 12) (k % 12)) in
-    (omega arith, simp length-set (omega arith), ap (set l.loop.cells k) (same ∙ sym cell) ∙ cell-more sheet s.args.cells.now l.loop.cells k l.loop.invariant.2 (omega arith) (omega arith))
+    (omega arith, simp length-set (omega arith), ap (set l.loop-k.cells k) (same ∙ sym cell) ∙ cell-more sheet s.args.cells.now l.loop-k.cells k l.loop-k.invariant.2 (omega arith) (omega arith))
 
 returns : tie.Need-returns invariant-loop decreases-loop
 returns c =
     let s : tie.Start invariant-loop decreases-loop = search in
-    let l : tie.At-loop invariant-loop decreases-loop = search in
+    let l : tie.At-loop-k invariant-loop decreases-loop = search in
     let d = s.args.cells.now in
-    l.loop.invariant.2 ∙ ap (paste d 0 (cells_of s.args.t1)) (le_antisymm l.loop.invariant.0 c.loop-test.false) ∙ cells-all s.args.t1 d
+    l.loop-k.invariant.2 ∙ ap (paste d 0 (cells_of s.args.sheet)) (le_antisymm l.loop-k.invariant.0 c.loop-k-test.false) ∙ cells-all s.args.sheet d
 
 pub put_cells_spec : {M : Type 1} → statement M
 put_cells_spec =
