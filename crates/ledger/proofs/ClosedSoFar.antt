@@ -2,15 +2,14 @@
 use native.Mathlib.Omega.{arith}
 use mathlib.Core.Path.{◌∙◌, ◌≡◌, ap, refl, sym}
 use mathlib.Core.Bool.{Bool, ◌&&◌, false, true}
-use Prim.Native.Nat.{ℕ, ◌+◌, ◌-◌, ◌<◌, ◌≤◌}
+use Prim.Native.Nat.{ℕ, ◌+◌, ◌<◌}
 use lib.ListN.{drop, get_or-replicate, length, replicate, set}
-use Rattle.ledger.proofs.Lists.{every-end, every-next, every-pass, filled, filled-end, filled-kept, filled_next, length-mapped, withAccounts}
+use Rattle.ledger.proofs.Lists.{every-next, every-pass, filled, filled-kept, filled_next, withAccounts}
 use Rattle.ledger.specs.Answers.{quiet}
 use Rattle.ledger.specs.Closing.{afterClosing, closingOf, leftAlone, ready, reportOf, staysInRange}
-use Rattle.ledger.specs.Closings.{closed}
 use Rattle.ledger.specs.Ranges.{accountInRange, everyAccount}
-use Rattle.ledger.specs.State.{accountAt, heldIn, noMonth, noToday, noTotals, nobody}
-use Rattle.tariff.specs.Dates.{lastOfMonth, real}
+use Rattle.ledger.specs.State.{accountAt, heldIn, nobody}
+use Rattle.tariff.specs.Dates.{lastOfMonth}
 use Rattle.tariff.specs.Holidays.{onMeasurementDay}
 use mathlib.Core.List.{List}
 use Rattle.ledger.specs.Structs.{Account, Closed, Entry, Ledger, Report}

@@ -1,16 +1,15 @@
 -- A posting keeps a ledger in range, and one in range has its measurement day in every month. A HOLIDAY that was accepted names a day after today, so
 -- today's own questions find the same answers.
 use Prim.Native.Nat.{ℕ}
-use mathlib.Core.Path.{◌≡◌, refl, sym, ap, ◌∙◌}
+use mathlib.Core.Path.{◌≡◌, refl, ap, ◌∙◌}
 use mathlib.Core.Bool.{Bool, true, false, cond, not, ◌&&◌}
 use mathlib.Core.List.{List, [], ◌∷◌, ◌++◌}
 use native.Mathlib.Omega.{arith}
 use lib.Dec.{eqb}
 use lib.ListN.{length}
 use borrow.Author.Tests.{eqb-true, eqb-false, eq-eqb, ne_eqb, not-false}
-use Rattle.tariff.specs.Dates.{before, dayAfter, lastOfMonth, real, sameDate}
-use Rattle.tariff.specs.Holidays.{heldDates, keptFrom, measurementDay, onMeasurementDay}
-use Rattle.tariff.specs.MeasurementDays.{NextBusinessDay}
+use Rattle.tariff.specs.Dates.{dayAfter, lastOfMonth, sameDate}
+use Rattle.tariff.specs.Holidays.{heldDates, keptFrom, onMeasurementDay}
 use Rattle.tariff.proofs.BusinessDays.{every-month, moves-on, today-stays}
 use Rattle.tariff.proofs.HeldDates.{held-stored, kept-members}
 use Rattle.tariff.proofs.Laws.{same-date-is}
@@ -24,11 +23,11 @@ use Rattle.ledger.specs.Forms.{entryChecks}
 use Rattle.ledger.specs.Holiday.{holding, holidayChecks, postHoliday}
 use Rattle.ledger.specs.Kinds.{kind_of, lookup}
 use Rattle.ledger.specs.Measuring.{DropsPassed, EveryMonthMeasured, HolidayAccepted, HoldsIt, MovesMeasuring, SameToday, StaysInRange}
-use Rattle.ledger.specs.Posting.{admission, changeOf, postEntry, postKind, postSeveral, posted, standingChecks, stored}
+use Rattle.ledger.specs.Posting.{admission, postEntry, postKind, postSeveral, posted, standingChecks, stored}
 use Rattle.ledger.specs.Ranges.{everyAccount, in_range}
 use Rattle.ledger.specs.Running.{run}
 use Rattle.ledger.specs.State.{accountAt, fresh, heldIn, withHolidays}
-use Rattle.ledger.specs.Structs.{Account, Answer, Date, Entry, Ledger, Posted}
+use Rattle.ledger.specs.Structs.{Date, Entry, Ledger, Posted}
 use Rattle.ledger.specs.Transfer.{giver, postTransfer, receiver, transferChecks}
 use Rattle.ledger.proofs.Admitted.{is-begun, is-ranged, is-today}
 use Rattle.ledger.proofs.Bounded.{begun-ranged, ranged-parts}

@@ -1,8 +1,8 @@
 -- A date that none of 33 to 35 refuses is real, lies after today and leaves its month a business day: so the ledger that holds it is in range.
 use Prim.Native.Nat.{◌<◌}
 use mathlib.Core.Path.{◌≡◌, refl}
-use mathlib.Core.Bool.{true, false, ◌&&◌, ◌||◌}
-use mathlib.Core.List.{List, [], ◌∷◌, ◌++◌}
+use mathlib.Core.Bool.{true, ◌&&◌}
+use mathlib.Core.List.{[], ◌∷◌, ◌++◌}
 use lib.Dec.{leb}
 use borrow.Author.Tests.{leb-false, not-false}
 use Rattle.tariff.specs.Dates.{before, real}

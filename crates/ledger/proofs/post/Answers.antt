@@ -4,7 +4,7 @@ use native.Mathlib.Omega.{arith}
 use mathlib.Core.Path.{◌≡◌, refl, sym, ap, ◌∙◌}
 use mathlib.Core.Bool.{Bool, ◌&&◌}
 use mathlib.Core.List.{List}
-use Prim.Native.Nat.{ℕ, ◌≤◌, ◌<◌}
+use Prim.Native.Nat.{ℕ, ◌≤◌}
 use lib.ListN.{drop, length}
 use Rattle.ledger.proofs.Lists.{every-end, every-next, length-mapped}
 use Rattle.ledger.proofs.OneAccount.{Judged, Single, admitted, posted-otherwise, posted-refused, posted-several, posted-stored, posted-unchanged, single}

@@ -1,6 +1,6 @@
 -- The account is in range and the cash is small, so no sum of the day's end leaves its type.
 use native.Mathlib.Omega.{arith}
-use Rattle.ledger.proofs.Bounded.{Bounded, bounded}
+use Rattle.ledger.proofs.Bounded.{bounded}
 use Rattle.ledger.specs.Closing.{dayEnd}
 use Rattle.ledger.specs.State.{withBank, withDays, withExcuse, withMonth, withToday, withTotals}
 use Rattle.ledger.proofs.closing.day_end.Goals as goal

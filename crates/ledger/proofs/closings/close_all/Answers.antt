@@ -1,27 +1,23 @@
 -- An open account is closed, any other stays as it is; either way what was closed so far is one account more.
 use borrow.Author.Rules.{rules}
 use native.Mathlib.Omega.{arith}
-use mathlib.Core.Path.{◌∙◌, ◌≡◌, ap, refl, sym}
-use mathlib.Core.Logic.{⊎_elim}
-use mathlib.Core.Bool.{Bool, ◌&&◌, false, true}
-use Prim.Native.Nat.{ℕ, ◌+◌, ◌-◌, ◌<◌, ◌≤◌}
-use lib.ListN.{drop, get_or-replicate, length, replicate, set}
+use mathlib.Core.Path.{◌∙◌, ◌≡◌, refl, sym}
+use mathlib.Core.Bool.{true}
+use Prim.Native.Nat.{ℕ, ◌<◌}
+use lib.ListN.{length, replicate}
 use Rattle.ledger.proofs.Admitted.{is-begun, is-ranged, is_real, is_right}
 use Rattle.ledger.proofs.Bounded.{account-ranged, begun-ranged}
-use Rattle.ledger.proofs.Lists.{every-end, every-next, every-pass, filled, filled-end, filled-kept, filled_next, length-mapped, withAccounts}
+use Rattle.ledger.proofs.Lists.{every-end, filled-end, length-mapped}
 use Rattle.ledger.proofs.RightEntries.{prices-fit}
 use Rattle.ledger.specs.Answers.{quiet}
-use Rattle.ledger.specs.Closing.{afterClosing, closingOf, leftAlone, ready, reportOf, staysInRange}
+use Rattle.ledger.specs.Closing.{afterClosing, reportOf, staysInRange}
 use Rattle.ledger.specs.Closings.{closed}
-use Rattle.ledger.specs.Ranges.{accountInRange, everyAccount}
+use Rattle.ledger.specs.Ranges.{accountInRange}
 use Rattle.ledger.specs.State.{accountAt, heldIn, noMonth, noToday, noTotals, nobody}
-use Rattle.tariff.specs.Dates.{lastOfMonth, real}
-use Rattle.tariff.specs.Holidays.{onMeasurementDay}
 use Rattle.tariff.specs.Terms.{termsInRange}
 use Rattle.ledger.specs.Kinds.{TERMS}
 use Rattle.ledger.specs.Posting.{admission}
-use mathlib.Core.List.{List}
-use Rattle.ledger.specs.Structs.{Account, Closed, Entry, Ledger, Report}
+use Rattle.ledger.specs.Structs.{Entry, Ledger}
 use Rattle.ledger.proofs.ClosedSoFar.{Ready, open-complete, open-reported, open-stored, open_stays, shut-complete, shut-reported, shut-stays, shut-stored}
 use Rattle.ledger.proofs.closings.close_all.Goals as goal
 use Rattle.ledger.proofs.closings.close_all.Goals.{then-a, else-a}
@@ -76,7 +72,7 @@ loop-i-preserved c =
     let so_far = c.loop-i.invariant in
     let stays = ranged c.args.l c.args.e c.requires.0 sixteen c.loop-i.i below in
     elim c.if-a.branch [
-      then-a w ↦ record {
+      | then-a w ↦ record {
         stored = open-stored c.args.l c.args.e c.loop-i.i sixteen below c.loop-i.next _ _ w.next-is so_far.stored w.close_account-one.ensures;
         reported = open-reported c.args.l c.args.e c.loop-i.i sixteen below c.loop-i.reports _ _ w.reports-is so_far.reported w.close_account-one.ensures;
         complete = open-complete c.args.l c.args.e c.loop-i.i sixteen below c.loop-i.complete _ _ _ _ so_far.complete w.ready-had.ensures so_far.ends so_far.reads w.complete-is;
@@ -84,14 +80,15 @@ loop-i-preserved c =
         ends = so_far.ends;
         reads = so_far.reads;
       }
-    | else-a w ↦ record {
+      | else-a w ↦ record {
         stored = shut-stored c.args.l c.args.e c.loop-i.i sixteen below w.if-a.false c.loop-i.next _ so_far.stored w.next-is;
         reported = shut-reported c.args.l c.args.e c.loop-i.i sixteen below w.if-a.false c.loop-i.reports _ so_far.reported w.reports-is;
         complete = shut-complete c.args.l c.args.e c.loop-i.i sixteen below w.if-a.false c.loop-i.complete _ so_far.complete w.complete-is;
         fits = shut-stays c.args.l c.args.e c.loop-i.i sixteen below w.if-a.false c.loop-i.fits _ stays so_far.fits w.fits-is;
         ends = so_far.ends;
         reads = so_far.reads;
-      } ]
+      }
+    ]
 
 pub returns-clause-closed : goal.returns-clause-closed
 unfolding closed

@@ -1,5 +1,4 @@
 -- A month's end keeps what lies from the next day on; any other closing keeps all.
-use Prim.Native.Nat.{ℕ}
 use mathlib.Core.Path.{◌≡◌}
 use borrow.Author.Rules.{rules}
 use borrow.Author.Tests.{eq-eqb, ne_eqb}

@@ -3,7 +3,6 @@ use borrow.Author.Rules.{rules}
 use Prim.Native.Nat.{ℕ}
 use mathlib.Core.Bool.{Bool, cond, not}
 use mathlib.Core.Path.{◌≡◌}
-use Rattle.tariff.specs.Dates.{firstOfGasYear}
 use Rattle.tariff.specs.Enrol.{openingTooHigh, staysOnFbs}
 use Rattle.ledger.specs.Structs.{Account, Entry, Terms}
 use Rattle.ledger.proofs.RightEntries.{enrol-fits}

@@ -6,7 +6,7 @@ use mathlib.Core.List.{[], ◌∷◌, ◌++◌}
 use borrow.Author.Rules.{rules}
 use borrow.Author.Tests.{eq-eqb, ne_eqb}
 use Rattle.tariff.specs.Holidays.{heldDates, storedDates}
-use Rattle.ledger.specs.Answers.{plain, refused, settle}
+use Rattle.ledger.specs.Answers.{refused, settle}
 use Rattle.ledger.specs.Checks.{verdict}
 use Rattle.ledger.specs.Entries.{dayNamed}
 use Rattle.ledger.specs.Holiday.{holding, holidayChecks, postHoliday}

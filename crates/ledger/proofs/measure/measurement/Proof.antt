@@ -3,7 +3,7 @@ use borrow.Author.Rules.{rules}
 use Prim.Native.Nat.{ℕ}
 use mathlib.Core.Bool.{Bool, cond, not}
 use mathlib.Core.Path.{◌≡◌}
-use Rattle.ledger.proofs.RightEntries.{is_real, measure-fits}
+use Rattle.ledger.proofs.RightEntries.{measure-fits}
 use Rattle.ledger.specs.Checks.{verdict}
 use Rattle.ledger.specs.Measure.{afterMeasure, measureChecks, measurement, remeasured}
 use Rattle.ledger.specs.Ranges.{accountInRange}

@@ -1,5 +1,4 @@
 -- An entry wrong in itself is refused for that, without a look at the ledger; else what is asked of the ledger and the day decides, in ascending order.
-use borrow.Author.Rules.{rules}
 use Prim.Native.Nat.{ℕ}
 use mathlib.Core.Bool.{Bool, true, ◌&&◌, cond, not}
 use mathlib.Core.Path.{◌∙◌, ◌≡◌, sym}

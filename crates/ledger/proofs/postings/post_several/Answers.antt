@@ -1,7 +1,4 @@
 -- Each kind of no account or of two has its own rule, an arm of the code for each row; any other kind is refused.
-use borrow.Author.Rules.{rules}
-use native.Mathlib.Omega.{arith}
-use mathlib.Core.Logic.{⊎_elim}
 use Rattle.ledger.proofs.KindCases.{at, absent}
 use Rattle.ledger.specs.Kinds.{lookup}
 use Rattle.ledger.specs.Posting.{postSeveral}

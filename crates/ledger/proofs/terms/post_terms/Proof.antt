@@ -3,7 +3,6 @@ use borrow.Author.Rules.{rules}
 use Prim.Native.Nat.{ℕ}
 use mathlib.Core.Bool.{Bool, cond, not}
 use mathlib.Core.Path.{◌≡◌}
-use Rattle.tariff.specs.Dates.{firstOfGasYear}
 use Rattle.ledger.specs.Answers.{settle}
 use Rattle.ledger.specs.Checks.{verdict}
 use Rattle.ledger.specs.Ranges.{in_range}

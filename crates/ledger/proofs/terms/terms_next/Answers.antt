@@ -2,12 +2,11 @@
 use borrow.Author.Rules.{rules}
 use native.Mathlib.Omega.{arith}
 use mathlib.Core.Path.{◌≡◌, refl}
-use Prim.Native.Nat.{◌-◌, ◌≤◌}
 use lib.ListN.{length}
 use Rattle.ledger.proofs.Admitted.{is-ranged, is_right}
 use Rattle.ledger.proofs.Bounded.{account-ranged}
 use Rattle.ledger.proofs.RightEntries.{terms-fit}
-use Rattle.ledger.proofs.Lists.{filled, filled-end, filled_next, length-mapped, withAccounts}
+use Rattle.ledger.proofs.Lists.{filled-end, filled_next, length-mapped}
 use Rattle.ledger.specs.State.{accountAt, noMonth, noToday, noTotals, nobody}
 use Rattle.ledger.specs.Terms.{reworked, termsNext}
 use Rattle.ledger.proofs.terms.terms_next.Goals as goal

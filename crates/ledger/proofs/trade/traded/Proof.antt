@@ -4,7 +4,7 @@ use Prim.Native.Nat.{◌≤◌}
 use mathlib.Core.Bool.{Bool, true, false}
 use mathlib.Core.Path.{◌≡◌}
 use Rattle.tariff.specs.Amounts.{size}
-use Rattle.ledger.proofs.Bounded.{Bounded, bounded}
+use Rattle.ledger.proofs.Bounded.{bounded}
 use Rattle.ledger.specs.Entries.{companySells}
 use Rattle.ledger.specs.Gas.{giving, taking}
 use Rattle.ledger.specs.State.{withMonth, withTotals}

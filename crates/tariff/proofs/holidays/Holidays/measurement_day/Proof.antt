@@ -1,13 +1,12 @@
 -- One day after the other from the 25th on: the first business day among those still to come is the measurement day, and past the last there is none.
-use Prim.Native.Nat.{ℕ, zero, suc, ◌+◌, ◌-◌, ◌≤◌, ◌<◌}
-use mathlib.Core.Path.{◌≡◌, refl, sym, ap, ◌∙◌}
+use Prim.Native.Nat.{ℕ, suc, ◌+◌, ◌-◌, ◌≤◌, ◌<◌}
+use mathlib.Core.Path.{◌≡◌, sym, ◌∙◌}
 use mathlib.Core.Bool.{Bool, true, false}
-use mathlib.Core.List.{List}
 use native.Mathlib.Omega.{arith}
 use borrow.Author.Rules.{rules}
 use Rattle.tariff.specs.Dates.{monthLength}
 use Rattle.tariff.specs.Holidays.{businessDay, dateOf, firstBusinessDay, heldDates, measurementDay}
-use Rattle.tariff.specs.Structs.{Date, Holidays, Month}
+use Rattle.tariff.specs.Structs.{Holidays, Month}
 use Rattle.tariff.proofs.Calendar.{month-length-ge, month-length-le}
 use Rattle.tariff.proofs.holidays.Holidays.measurement_day.Statement.{statement}
 use Rattle.tariff.proofs.holidays.Holidays.measurement_day.Tie as tie
