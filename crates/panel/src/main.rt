@@ -3,43 +3,37 @@
 #![tactic(auto)]
 
 use archive::Figures;
-use libc::STDIN_FILENO;
-use printing::{number, text, units};
+use printing::units;
+use reading::read_full;
+use std::io;
+use std::io::Read;
+use std::process::ExitCode;
 
-fn show(f: Figures) {
+fn show(rt: &impl Print, f: Figures) -> io::Result<()> {
     if f.number != 0 {
-        text(b"archive ");
-        number(f.number);
-        text(b" ");
-        number(f.index as u64);
-        text(b"\n");
-        return;
+        return println!(rt; "archive {} {}", f.number, f.index);
     }
-    let figure = f.figure;
-    number(f.accepted);
-    text(b" ");
-    number(f.refused);
-    text(b" ");
-    units(figure);
-    text(b"\n");
+    println!(rt; "{} {} {}", f.accepted, f.refused, units(f.figure))
 }
 
 // Whether the input has another byte.
-fn has_more() -> bool {
+fn has_more<R: Read>(input: &mut R) -> bool {
     let mut one = [0u8; 1];
-    let n = io::read_full(STDIN_FILENO, &mut one);
-    0 < n
+    0 < read_full(input, &mut one)
 }
 
-fn main() {
-    let mut bytes = io::large_buffer();
-    let n = io::read_full(STDIN_FILENO, &mut bytes);
-    if n == 65536 {
-        if has_more() {
-            text(b"too long\n");
-            return;
-        }
+// Where the line cannot be printed the status is 1. The words for it would make the program 50 KB larger.
+fn main(rt: HostRuntime) -> ExitCode {
+    let mut input = rt.reader();
+    let mut bytes = [0u8; 65536];
+    let n = read_full(&mut input, &mut bytes);
+    let printed = if n == 65536 && has_more(&mut input) {
+        println!(rt; "too long")
+    } else {
+        show(&rt, archive::figures(&bytes[..n]))
+    };
+    match printed {
+        Ok(()) => ExitCode::SUCCESS,
+        Err(_) => ExitCode::FAILURE,
     }
-    let f = archive::figures(&bytes[..n]);
-    show(f);
 }

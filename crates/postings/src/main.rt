@@ -6,13 +6,14 @@
 ghost use Rattle.std.specs.Prelude.{◌+◌, ◌<◌, ◌≤◌, length};
 
 use ledger::{Account, Answer, Ledger, Report};
-use libc::STDIN_FILENO;
-use printing::{mills, number, text, units};
+use printing::{mills, units};
+use reading::read_full;
+use std::io;
 use tariff::amounts::{Charge, Dth, Mcf, Mills, Quantity, Units};
 use tariff::months::Month;
 
 // One account of an answer, where there is anything to tell.
-fn report(account: u64, r: Report) {
+fn report(rt: &impl Print, account: usize, r: Report) -> io::Result<()> {
     let cash = r.cash;
     let into = cash.inward();
     let out = cash.outward();
@@ -25,31 +26,23 @@ fn report(account: u64, r: Report) {
         & (bill.due() == 0)
         & (bill.credit() == 0);
     if quiet {
-        return;
+        return Ok(());
     }
-    text(b" ");
-    number(account);
-    text(b":");
-    number(r.mask);
-    text(b",");
-    units(cash);
-    text(b",");
-    number(forfeit.0);
-    text(b",");
-    mills(bill);
+    print!(rt; " {account}:{},{}", r.mask, units(cash))?;
+    print!(rt; ",{},{}", forfeit.0, mills(bill))
 }
 
-fn reports(a: Answer) {
+fn reports(rt: &impl Print, a: Answer) -> io::Result<()> {
     for i in 0..16 {
-        let r = a.reports[i];
-        report(i as u64, r);
+        report(rt, i, a.reports[i])?;
     }
+    Ok(())
 }
 
-fn answer(a: Answer) {
-    number(a.number);
-    reports(a);
-    text(b"\n");
+fn answer(rt: &impl Print, a: Answer) -> io::Result<()> {
+    print!(rt; "{}", a.number)?;
+    reports(rt, a)?;
+    println!(rt)
 }
 
 // A signed number from its 64 bits.
@@ -238,10 +231,11 @@ fn four(bytes: &[u8], at: usize) -> u64
         + 256 * (byte(bytes, at + 1) + 256 * (byte(bytes, at + 2) + 256 * byte(bytes, at + 3)))
 }
 
-// Where the next record begins, and the ledger then.
+// Where the next record begins, what the record before it was answered if it was a posting, and the ledger then.
 #[derive(Clone, Copy)]
 struct Place {
     at: usize,
+    answer: Option<Answer>,
     ledger: Ledger,
 }
 
@@ -255,7 +249,11 @@ fn record(input: &[u8], at: usize, l: Ledger) -> Place
     if tag == 80 {
         return posting(input, at, l);
     }
-    let cut = Place { at: all, ledger: l };
+    let cut = Place {
+        at: all,
+        answer: None,
+        ledger: l,
+    };
     if all - at < 11 {
         return cut;
     }
@@ -264,6 +262,7 @@ fn record(input: &[u8], at: usize, l: Ledger) -> Place
         let next = poke(l, account, byte(input, at + 2), eight(input, at + 3));
         return Place {
             at: at + 11,
+            answer: None,
             ledger: next,
         };
     }
@@ -275,7 +274,11 @@ fn posting(input: &[u8], at: usize, l: Ledger) -> Place
     ensures { (at < result.at) × (result.at ≤ length input.now) }
 {
     let all = input.len();
-    let cut = Place { at: all, ledger: l };
+    let cut = Place {
+        at: all,
+        answer: None,
+        ledger: l,
+    };
     if all - at < 2 {
         return cut;
     }
@@ -286,82 +289,66 @@ fn posting(input: &[u8], at: usize, l: Ledger) -> Place
     let start = at + 2;
     let end = start + count;
     let posted = ledger::post(l, &input[start..end]);
-    let said = posted.answer;
-    let next = posted.ledger;
-    answer(said);
     Place {
         at: end,
-        ledger: next,
+        answer: Some(posted.answer),
+        ledger: posted.ledger,
     }
 }
 
-fn run(input: &[u8]) -> Ledger {
+fn run(rt: &impl Print, input: &[u8]) -> io::Result<Ledger> {
     let mut l = ledger::fresh(false);
     let mut at = 0;
     while at < input.len() {
         let next = record(input, at, l);
-        let left = next.ledger;
-        l = left;
+        if let Some(said) = next.answer {
+            answer(rt, said)?;
+        }
+        l = next.ledger;
         at = next.at;
     }
-    l
+    Ok(l)
 }
 
 // The bank, what is owed, or the violation days of an account; one not open counts as 0.
-fn figure(what: u8, a: Account) {
-    text(b" ");
+fn figure(rt: &impl Print, what: u8, a: Account) -> io::Result<()> {
     if !a.opened {
-        text(b"0");
-        return;
+        return print!(rt; " 0");
     }
     if what == b'b' {
-        let bank = a.bank;
-        units(bank);
-        return;
+        return print!(rt; " {}", units(a.bank));
     }
     if what == b'o' {
-        let owed = a.owed;
-        mills(owed);
-        return;
+        return print!(rt; " {}", mills(a.owed));
     }
-    number(a.violation_days);
+    print!(rt; " {}", a.violation_days)
 }
 
-fn figures(what: u8, l: Ledger) {
+fn figures(rt: &impl Print, what: u8, l: Ledger) -> io::Result<()> {
     for i in 0..16 {
-        let a = l.accounts[i];
-        figure(what, a);
+        figure(rt, what, l.accounts[i])?;
     }
+    println!(rt)
 }
 
-fn last_lines(l: Ledger) {
-    text(b"banks");
-    figures(b'b', l);
-    text(b"\nowed");
-    figures(b'o', l);
-    text(b"\ndays");
-    figures(b'd', l);
-    text(b"\n");
+fn last_lines(rt: &impl Print, l: Ledger) -> io::Result<()> {
+    print!(rt; "banks")?;
+    figures(rt, b'b', l)?;
+    print!(rt; "owed")?;
+    figures(rt, b'o', l)?;
+    print!(rt; "days")?;
+    figures(rt, b'd', l)?;
     let date = l.date;
     let month = date.month;
-    text(b"date ");
-    number(date.year);
-    text(b" ");
-    number(month.0);
-    text(b" ");
-    number(date.day);
-    text(b"\n");
+    println!(rt; "date {} {} {}", date.year, month.0, date.day)?;
     let shown = ledger::panel(l);
-    let figure = shown.figure;
-    text(b"panel ");
-    number(shown.number);
-    text(b" ");
-    units(figure);
-    text(b"\n");
+    println!(rt; "panel {} {}", shown.number, units(shown.figure))
 }
 
-fn main() {
-    let mut buffer = io::large_buffer();
-    let n = io::read_full(STDIN_FILENO, &mut buffer);
-    last_lines(run(&buffer[..n]));
+fn main(rt: HostRuntime) -> io::Result<()> {
+    let mut input = rt.reader();
+    let mut buffer = [0u8; 65536];
+    let n = read_full(&mut input, &mut buffer);
+    let l = run(&rt, &buffer[..n])?;
+    last_lines(&rt, l)
 }

@@ -2,33 +2,34 @@
 // which may be up to 65,536 bytes long.
 #![tactic(auto)]
 
-use libc::STDIN_FILENO;
-use printing::{text, units};
+use printing::units;
+use reading::read_full;
+use std::io;
 use tariff::amounts::Units;
 
-fn row(banks: [Units; 12]) {
+fn row(rt: &impl Print, banks: [Units; 12]) -> io::Result<()> {
     for m in 0..12 {
         if 0 < m {
-            text(b" ");
+            print!(rt; " ")?;
         }
-        let bank = banks[m];
-        units(bank);
+        print!(rt; "{}", units(banks[m]))?;
     }
-    text(b"\n");
+    println!(rt)
 }
 
-fn sheet(rows: [[Units; 12]; 16]) {
+fn sheet(rt: &impl Print, rows: [[Units; 12]; 16]) -> io::Result<()> {
     for i in 0..16 {
-        let banks = rows[i];
-        row(banks);
+        row(rt, rows[i])?;
     }
+    Ok(())
 }
 
-fn main() {
-    let mut bytes = io::large_buffer();
-    let n = io::read_full(STDIN_FILENO, &mut bytes);
+fn main(rt: HostRuntime) -> io::Result<()> {
+    let mut input = rt.reader();
+    let mut bytes = [0u8; 65536];
+    let n = read_full(&mut input, &mut bytes);
     for year in 2025..2028 {
-        let rows = archive::year_sheet(&bytes[..n], year);
-        sheet(rows);
+        sheet(&rt, archive::year_sheet(&bytes[..n], year))?;
     }
+    Ok(())
 }
