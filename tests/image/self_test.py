@@ -41,6 +41,8 @@ FORMS = {
 C_TYPES = {8: "unsigned char", 16: "unsigned short", 32: "unsigned int", 64: "unsigned long"}
 RATTLE_TYPES = {8: "u8", 16: "u16", 32: "u32", 64: "u64"}
 LEVELS = ("-O2", "-Os")
+# Sections of constants that all functions share.
+SHARED = ".rodata.cst"
 
 # The compiler makes tables of the first three too: it leaves out the entries at both ends that are alike, or July and August.
 RATTLE_TESTS = {
@@ -76,18 +78,25 @@ def c_sources():
 
 
 def rattle_function(name, argument, kind, body):
-    return f'#[no_mangle]\npub extern "C" fn {name}(m: {argument}) -> {kind} {{\n{body}}}\n'
+    return f'#[unsafe(no_mangle)]\npub extern "C" fn {name}(m: {argument}) -> {kind} {{\n{body}}}\n'
+
+
+def rattle_functions():
+    """Name and text of functions with a table: by tests, and each form as a constant and as an array of the function's own."""
+    for name, body in RATTLE_TESTS.items():
+        yield name, rattle_function(name, "u64", "u64", body)
+    read = "    if m < 12 {{\n        return {}[m];\n    }}\n    0\n"
+    for name, bits, entries in forms():
+        kind, constant = RATTLE_TYPES[bits], name.upper()
+        table = f"[{kind}; 12] = [{', '.join(map(str, entries))}];\n"
+        at_rest = rattle_function(f"at_rest_{name}", "usize", kind, read.format(constant))
+        yield f"at_rest_{name}", f"const {constant}: {table}{at_rest}"
+        yield f"written_out_{name}", rattle_function(f"written_out_{name}", "usize", kind, f"    let table: {table}{read.format('table')}")
 
 
 def rattle_source():
-    text = rattle_function("worked_out", "u64", "u64", WORKED_OUT["Rattle"])
-    for name, body in RATTLE_TESTS.items():
-        text += rattle_function(name, "u64", "u64", body)
-    for name, bits, entries in forms():
-        kind, table = RATTLE_TYPES[bits], name.upper()
-        text += f"const {table}: [{kind}; 12] = [{', '.join(map(str, entries))}];\n"
-        text += rattle_function(name, "usize", kind, f"    if m < 12 {{\n        return {table}[m];\n    }}\n    0\n")
-    return text
+    worked_out = rattle_function("worked_out", "u64", "u64", WORKED_OUT["Rattle"])
+    return "#![tactic(auto)]\n" + worked_out + "".join(text for _, text in rattle_functions())
 
 
 def run(*words, **how):
@@ -113,29 +122,29 @@ def try_c(level, work):
 
 
 def linked_alone(work, name):
-    """One function of the library, with what it refers to and nothing else."""
+    """One function of the library, with what it refers to and nothing else; constants that functions share stay in sections of their own."""
     program = os.path.join(work, "alone")
-    library = os.path.join(work, "target", "staticlib", "libforms.a")
-    run("gcc", "-nostdlib", "-static", f"-Wl,-e,{name}", f"-Wl,-u,{name}", "-Wl,--gc-sections", library, "-o", program)
+    library = os.path.join(work, "crates", "forms", "out", "libforms.a")
+    alone = ["-Wl,--gc-sections", f"-Wl,--unique={SHARED}*", f"-Wl,-e,{name}", f"-Wl,-u,{name}"]
+    run("gcc", "-nostdlib", "-static", *alone, library, "-o", program)
     return program
 
 
 def try_rattle(work):
-    crate = os.path.join(work, "crates", "forms", "src")
-    os.makedirs(crate)
-    write(os.path.join(work, "crates.txt"), "forms:\n")
-    write(os.path.join(crate, "lib.rt"), rattle_source())
-    run("rt", "staticlib", "forms", cwd=work)
-    names = [name for name, _, _ in forms()]
-    missed = [name for name in names if not in_code(tables.faults_of(linked_alone(work, name))[0])]
-    missed += [name for name in RATTLE_TESTS if not tables.faults_of(linked_alone(work, name))[0]]
-    return report("Rattle", len(names) + len(RATTLE_TESTS), missed, tables.faults_of(linked_alone(work, "worked_out"))[0])
+    crate = os.path.join(work, "crates", "forms")
+    os.makedirs(os.path.join(crate, "src"))
+    write(os.path.join(work, "crates.txt"), "forms staticlib:\n")
+    write(os.path.join(crate, "src", "lib.rt"), rattle_source())
+    run("rt", "lib", cwd=crate)
+    names = [name for name, _ in rattle_functions()]
+    missed = [name for name in names if not its_own(tables.faults_of(linked_alone(work, name))[0])]
+    return report("Rattle", len(names), missed, tables.faults_of(linked_alone(work, "worked_out"))[0])
 
 
-def in_code(faults):
-    """Those in code. The compiler writes a table out there, from operands and from constants of 16 bytes that all functions share: what is
-    found among these constants may belong to another form."""
-    return [fault for fault in faults if not fault.startswith(".rodata")]
+def its_own(faults):
+    """Those of the function alone. The compiler keeps a table as data, or writes it out from operands and from constants of 16 bytes that all
+    functions share: what is found among these constants may belong to another form."""
+    return [fault for fault in faults if not fault.startswith(SHARED)]
 
 
 # Lines of a Rattle file that hold a table; words of bits among them, which only a hand can have written there.
