@@ -1,7 +1,7 @@
 -- A posting keeps a ledger in range, and one in range has its measurement day in every month. A HOLIDAY that was accepted names a day after today, so
 -- today's own questions find the same answers.
 use Prim.Native.Nat.{ℕ}
-use mathlib.Core.Path.{◌≡◌, refl, ap, ◌∙◌}
+use mathlib.Core.Path.{◌≡◌, refl, sym, ap, ◌∙◌}
 use mathlib.Core.Bool.{Bool, true, false, cond, not, ◌&&◌}
 use mathlib.Core.List.{List, [], ◌∷◌, ◌++◌}
 use native.Mathlib.Omega.{arith}
@@ -9,7 +9,7 @@ use lib.Dec.{eqb}
 use lib.ListN.{length}
 use borrow.Author.Tests.{eqb-true, eqb-false, eq-eqb, ne_eqb, not-false}
 use Rattle.tariff.specs.Dates.{dayAfter, lastOfMonth, sameDate}
-use Rattle.tariff.specs.Holidays.{heldDates, keptFrom, onMeasurementDay}
+use Rattle.tariff.specs.Holidays.{heldDates, keptFrom, onMeasurementDay, storedDates}
 use Rattle.tariff.proofs.BusinessDays.{every-month, moves-on, today-stays}
 use Rattle.tariff.proofs.HeldDates.{held-stored, kept-members}
 use Rattle.tariff.proofs.Laws.{same-date-is}
@@ -22,19 +22,19 @@ use Rattle.ledger.specs.Entries.{dayNamed, entry_of}
 use Rattle.ledger.specs.Forms.{entryChecks}
 use Rattle.ledger.specs.Holiday.{holding, holidayChecks, postHoliday}
 use Rattle.ledger.specs.Kinds.{kind_of, lookup}
-use Rattle.ledger.specs.Measuring.{DropsPassed, EveryMonthMeasured, HolidayAccepted, HoldsIt, MovesMeasuring, SameToday, StaysInRange}
+use Rattle.ledger.specs.Measuring.{DropsPassed, EveryMonthMeasured, HolidayAccepted, HoldsIt, MovesMeasuring, SameToday, StaysInRange, StoredAnew}
 use Rattle.ledger.specs.Posting.{admission, postEntry, postKind, postSeveral, posted, standingChecks, stored}
 use Rattle.ledger.specs.Ranges.{everyAccount, in_range}
 use Rattle.ledger.specs.Running.{run}
 use Rattle.ledger.specs.State.{accountAt, fresh, heldIn, withHolidays}
-use Rattle.ledger.specs.Structs.{Date, Entry, Ledger, Posted}
+use Rattle.ledger.specs.Structs.{Date, Entry, Ledger, Posted, Holidays}
 use Rattle.ledger.specs.Transfer.{giver, postTransfer, receiver, transferChecks}
 use Rattle.ledger.proofs.Admitted.{is-begun, is-ranged, is-today}
 use Rattle.ledger.proofs.Bounded.{begun-ranged, ranged-parts}
 use Rattle.ledger.proofs.EveryPosting.{step}
 use Rattle.ledger.proofs.FreshLedger.{fresh-sound}
 use Rattle.ledger.proofs.NamedDays.{held_next, holding-ranged, is_later, is-real-day, leaves-one}
-use Rattle.ledger.proofs.OldLedgers.{month-closed}
+use Rattle.ledger.proofs.OldLedgers.{month-closed, places-stay}
 use Rattle.ledger.proofs.OneStep.{Sound}
 use Rattle.ledger.proofs.Verdicts.{verdict-tail}
 
@@ -108,6 +108,48 @@ moves-measuring l b n e =
     let a = accepted l b n in
     let d = dayNamed (entry_of b) in
     rw (holds-it l b n) (moves-on (heldIn l) d (is-real-day l d a.free) e (leaves-one l d a.free))
+
+-- ---- the places past the count
+
+abbrev Stored : Ledger → Type 0
+Stored l = l.holidays ≡ storedDates (heldIn l)
+
+fresh-stored : (new : Bool) → Stored (fresh new)
+unfolding fresh heldIn
+fresh-stored new = ap storedDates (sym (held-stored []))
+
+holding-stored : (l : Ledger) (d : Date) → Stored (holding l d)
+holding-stored l d = (unfold holding withHolidays in ap storedDates (sym (held_next l d)))
+
+closed-stored : (l : Ledger) (e : Entry) → e.kind ≡ 9 → Stored (closed l e).ledger
+unfolding heldIn closed holidaysAfter
+closed-stored l e nine = rw (eq-eqb e.kind 9 nine, held-stored (keptFrom (dayAfter e.date) (heldDates l.holidays)))
+
+stored-next : (l : Ledger) (b : List ℕ) → Sound l → Stored l → Stored (posted l b).ledger
+unfolding heldIn
+stored-next l b s h = by-number (eqb (posted l b).answer.number 0) refl
+  where
+    by-kind : (posted l b).answer.number ≡ 0 → (t u : Bool) → eqb (entry_of b).kind 11 ≡ t → eqb (entry_of b).kind 9 ≡ u → Stored (posted l b).ledger
+    by-kind z true u k n =
+        let a = accepted l b (record { kind = eqb-true (entry_of b).kind 11 k; accepted = z }) in
+        rw a.next (holding-stored l (dayNamed (entry_of b)))
+    by-kind z false true k n =
+        let nine = eqb-true (entry_of b).kind 9 n in
+        rw (month-closed l b nine z) (closed-stored l (entry_of b) nine)
+    by-kind z false false k n =
+        let same = places-stay l b (eqb-false (entry_of b).kind 11 k) (eqb-false (entry_of b).kind 9 n) in
+        same ∙ h ∙ ap (λ (x : Holidays). storedDates (heldDates x)) (sym same)
+
+    by-number : (t : Bool) → eqb (posted l b).answer.number 0 ≡ t → Stored (posted l b).ledger
+    by-number true e = by-kind (eqb-true (posted l b).answer.number 0 e) (eqb (entry_of b).kind 11) (eqb (entry_of b).kind 9) refl refl
+    by-number false e = rw ((step l b s).kept e) h
+
+run_stored : (l : Ledger) (bs : List (List ℕ)) → Sound l → Stored l → Stored (run l bs)
+run_stored l [] s h = h
+run_stored l (b ∷ bs) s h = run_stored (posted l b).ledger bs (sound-next l b s) (stored-next l b s h)
+
+pub stored-anew : StoredAnew
+stored-anew new bs = run_stored (fresh new) bs (fresh-sound new) (fresh-stored new)
 
 -- ---- the same day's other postings
 

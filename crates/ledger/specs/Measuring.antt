@@ -2,7 +2,7 @@
 use Rattle.tariff.specs.Vocabulary.{ℕ, Bool, true, cond, not, ◌&&◌, leb, List, [], ◌∷◌, ◌++◌, ◌≡◌}
 use Rattle.ledger.specs.Structs.{Date, Ledger, Month}
 use Rattle.tariff.specs.Dates.{before}
-use Rattle.tariff.specs.Holidays.{measurementDay, named}
+use Rattle.tariff.specs.Holidays.{measurementDay, named, storedDates}
 use Rattle.tariff.specs.MeasurementDays.{IsMeasurementDay, MonthExists, NextBusinessDay}
 use Rattle.ledger.specs.Kinds.{TERMS, CLOSE-MONTH, HOLIDAY}
 use Rattle.ledger.specs.Entries.{dayNamed, entry_of}
@@ -33,6 +33,10 @@ EveryMonthMeasured =
 abbrev pub PlacesStay : Type 0
 PlacesStay =
     (l : Ledger) (b : List ℕ) → ((entry_of b).kind ≡ HOLIDAY → ⊥) → ((entry_of b).kind ≡ CLOSE-MONTH → ⊥) → (posted l b).ledger.holidays ≡ l.holidays
+
+-- R101: so in a ledger that began fresh there are zeros in every place past the count: its dates are always stored anew.
+abbrev pub StoredAnew : Type 0
+StoredAnew = (new : Bool) (bs : List (List ℕ)) → (run (fresh new) bs).holidays ≡ storedDates (heldIn (run (fresh new) bs))
 
 -- R104: after an accepted CLOSE MONTH a date is held exactly when it was held before and does not lie before the new day.
 abbrev pub DropsPassed : Type 0
