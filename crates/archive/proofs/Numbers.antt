@@ -5,7 +5,7 @@ use mathlib.Core.Path.{◌≡◌, refl, sym, ap, ◌∙◌}
 use mathlib.Core.List.{List, [], ◌∷◌, ◌++◌}
 use lib.ListN.{length, get_or, take, drop, length-append}
 use lib.Seq.{drop_at, drop-cons}
-use Rattle.ledger.specs.Entries.{halfAt, word_at}
+use Rattle.ledger.specs.Entries.{word_at}
 use Rattle.archive.specs.Words.{bytes_of}
 use Rattle.ledger.proofs.Fields.{word_bytes}
 use Rattle.archive.specs.RoundTrips.{Bytes}

@@ -1,13 +1,12 @@
 -- A section fits behind the last one, as the whole list does, and once it is filled in the output holds the list up to its end.
-use borrow.Author.Rules.{rules}
 use native.Mathlib.Omega.{arith}
-use Prim.Native.Nat.{ℕ, ◌+◌, ◌-◌, ◌%◌, ◌≤◌}
+use Prim.Native.Nat.{ℕ, ◌+◌, ◌-◌, ◌≤◌}
 use mathlib.Core.List.{List, ◌++◌}
 use mathlib.Core.Path.{◌≡◌, refl, ap, ◌∙◌}
 use lib.Seq.{paste, paste-zero, length-paste}
 use lib.ListN.{length, take, drop, length-drop}
 use Rattle.archive.proofs.Parts.{section-bytes, section-stored}
-use Rattle.archive.proofs.Splits.{FirstAt, first-at, rest-multiple, rest-whole}
+use Rattle.archive.proofs.Splits.{FirstAt, first-at, rest-whole}
 use Rattle.archive.proofs.writing.put_sections.Goals as goal
 use Rattle.archive.proofs.writing.put_sections.Invariants.{Rest}
 
