@@ -7,12 +7,12 @@ use mathlib.Core.Bool.{Bool, true, false, cond}
 use mathlib.Core.List.{List, map}
 use lib.Dec.{eqb, ltb}
 use lib.ListN.{length}
-use Rattle.tariff.proofs.Bools.{or_left, or_right}
+use Rattle.tariff.proofs.Bools.{or-left, or-right}
 use Rattle.ledger.specs.Forms.{formNumber}
 use Rattle.archive.specs.Entries.{entriesOf, finding, firstRefusal}
 use Rattle.archive.specs.Layout.{sectionsOf, archiveOf}
 use Rattle.archive.specs.Writing.{listChecked, tooLarge, unwritten, written}
-use Rattle.archive.specs.Reading.{isNew, wrongHeader, rightDirectory, numbersOf, parts_of, checked}
+use Rattle.archive.specs.Reading.{isNew, wrongHeader, rightDirectory, numbersOf, partsOf, checked}
 use Rattle.archive.specs.Structs.{Checked}
 use Rattle.archive.proofs.Refusals.{Zeros, none-refused, all-zero}
 use Rattle.archive.proofs.Headers.{Measured, measured}
@@ -59,8 +59,8 @@ module _ (new : Bool) (list : List ℕ) where
       record {
         whole = eqb-true (length list % 32) 0 k.0;
         forms = check-zero k.1;
-        few = ltb-false 1200 (length (sectionsOf (entriesOf list))) (or_left few short k.2);
-        short = ltb-false 4294967295 size (or_right few short k.2);
+        few = ltb-false 1200 (length (sectionsOf (entriesOf list))) (or-left few short k.2);
+        short = ltb-false 4294967295 size (or-right few short k.2);
       }
 
   pub written-fits : (room : ℕ) → (written new list room).number ≡ 0 → length (archiveOf new list) ≤ room
@@ -76,7 +76,7 @@ module _ (new : Bool) (list : List ℕ) where
 pub record Readable (a : List ℕ) : Type 0 where
   pub headed : wrongHeader a ≡ false
   pub directed : rightDirectory a ≡ true
-  pub zeros : Zeros (numbersOf (isNew a) (parts_of a))
+  pub zeros : Zeros (numbersOf (isNew a) (partsOf a))
 
 check-case : (wrong right : Bool) (ns : List ℕ) → (cond wrong (finding 8 0) (cond right (firstRefusal 0 ns) (finding 9 0))).number ≡ 0 → (wrong ≡ false) × (right ≡ true) × Zeros ns
 unfolding finding
@@ -87,12 +87,12 @@ check-case false false ns h = absurd (omega arith)
 pub checked-tells : (a : List ℕ) → (checked a).number ≡ 0 → Readable a
 unfolding checked
 checked-tells a h =
-    let k : (wrongHeader a ≡ false) × (rightDirectory a ≡ true) × Zeros (numbersOf (isNew a) (parts_of a)) = check-case (wrongHeader a) (rightDirectory a) (numbersOf (isNew a) (parts_of a)) h in
+    let k : (wrongHeader a ≡ false) × (rightDirectory a ≡ true) × Zeros (numbersOf (isNew a) (partsOf a)) = check-case (wrongHeader a) (rightDirectory a) (numbersOf (isNew a) (partsOf a)) h in
     record { headed = k.0; directed = k.1; zeros = k.2 }
 
 pub readable-checked : (a : List ℕ) → Readable a → checked a ≡ finding 0 0
 unfolding checked
-readable-checked a r = rw (r.headed, r.directed) (none-refused 0 (numbersOf (isNew a) (parts_of a)) r.zeros)
+readable-checked a r = rw (r.headed, r.directed) (none-refused 0 (numbersOf (isNew a) (partsOf a)) r.zeros)
 
 pub accepted-sizes : (a : List ℕ) (c : Checked) → c ≡ checked a → c.number ≡ 0 → Measured a
 accepted-sizes a c e z = measured a (checked-tells a (cc)).headed

@@ -10,17 +10,17 @@ use Rattle.archive.specs.Entries.{firstEntries, entriesOf}
 use Rattle.archive.specs.Layout.{concatenated}
 
 -- the entry at k, and those after it, as a loop meets them
-pub entries_next : (n k : ℕ) (s : List ℕ) → k < n → firstEntries (n - k) (drop (32 * k) s) ≡ take (32 * k + 32 - 32 * k) (drop (32 * k) s) ∷ firstEntries (n - (k + 1)) (drop (32 * (k + 1)) s)
+pub entries-next : (n k : ℕ) (s : List ℕ) → k < n → firstEntries (n - k) (drop (32 * k) s) ≡ take (32 * k + 32 - 32 * k) (drop (32 * k) s) ∷ firstEntries (n - (k + 1)) (drop (32 * (k + 1)) s)
 unfolding firstEntries
-entries_next n k s h =
+entries-next n k s h =
     let m : n - k ≡ suc (n - (k + 1)) = omega arith in
     let j : 32 * (k + 1) ≡ 32 * k + 32 = omega arith in
     let w : 32 * k + 32 - 32 * k ≡ 32 = omega arith in
     rw (m, j, w, drop-drop 32 (32 * k) s)
 
-pub entries_none : (n k : ℕ) (s : List ℕ) → n ≤ k → firstEntries (n - k) s ≡ []
+pub entries-none : (n k : ℕ) (s : List ℕ) → n ≤ k → firstEntries (n - k) s ≡ []
 unfolding firstEntries
-entries_none n k s h = let z : n - k ≡ 0 = omega arith in rw z
+entries-none n k s h = let z : n - k ≡ 0 = omega arith in rw z
 
 pub length-entries : (n : ℕ) (s : List ℕ) → length (firstEntries n s) ≡ n
 unfolding firstEntries
@@ -43,11 +43,11 @@ drop-entries (suc k) (suc n) s h =
     rw (m, j) (drop-entries k n (drop 32 s) (omega arith) ∙ ap (firstEntries (n - k)) (drop-drop (32 * k) 32 s))
 
 -- each entry is whole
-pub entry_whole : (n k : ℕ) (s : List ℕ) → k < n → 32 * n ≤ length s → length (get_or (firstEntries n s) k []) ≡ 32
+pub entry-whole : (n k : ℕ) (s : List ℕ) → k < n → 32 * n ≤ length s → length (get_or (firstEntries n s) k []) ≡ 32
 unfolding firstEntries
-entry_whole zero k s h w = absurd (omega arith)
-entry_whole (suc n) zero s h w = simp length-take (omega arith)
-entry_whole (suc n) (suc k) s h w = entry_whole n k (drop 32 s) (omega arith) (simp length-drop (omega arith))
+entry-whole zero k s h w = absurd (omega arith)
+entry-whole (suc n) zero s h w = simp length-take (omega arith)
+entry-whole (suc n) (suc k) s h w = entry-whole n k (drop 32 s) (omega arith) (simp length-drop (omega arith))
 
 -- the bytes of the first n entries
 pub together-entries : (n : ℕ) (s : List ℕ) → concatenated (firstEntries n s) ≡ take (32 * n) s

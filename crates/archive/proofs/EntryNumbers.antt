@@ -10,13 +10,13 @@ use lib.ListN.{length}
 use lib.Seq.{take_all}
 use Rattle.ledger.specs.Forms.{formNumber}
 use Rattle.archive.specs.Entries.{firstEntries, entriesOf, closesMonth}
-use Rattle.archive.specs.Reading.{misplaced, number_in}
+use Rattle.archive.specs.Reading.{misplaced, numberIn}
 
 -- ---- an entry alone
 
-pub one_entry : (e : List ℕ) → length e ≡ 32 → entriesOf e ≡ e ∷ []
+pub one-entry : (e : List ℕ) → length e ≡ 32 → entriesOf e ≡ e ∷ []
 unfolding entriesOf firstEntries
-one_entry e h = rw h (ap (λ (l : List ℕ). l ∷ []) (take_all 32 e (omega arith)))
+one-entry e h = rw h (ap (λ (l : List ℕ). l ∷ []) (take_all 32 e (omega arith)))
 
 -- ---- an entry's number: 0 where its form is right and its place too
 
@@ -25,8 +25,8 @@ number-case n true true e h = absurd (omega arith)
 number-case n true false e h = (eqb-true n 0 e, refl)
 number-case n false m e h = absurd (eqb-false n 0 e h)
 
-pub number-parts : (new : Bool) (ends final : Bool) (e : List ℕ) → number_in new ends final e ≡ 0 → (formNumber new e ≡ 0) × (misplaced ends final e ≡ false)
-unfolding number_in
+pub number-parts : (new : Bool) (ends final : Bool) (e : List ℕ) → numberIn new ends final e ≡ 0 → (formNumber new e ≡ 0) × (misplaced ends final e ≡ false)
+unfolding numberIn
 number-parts new ends final e h = number-case (formNumber new e) (eqb (formNumber new e) 0) (misplaced ends final e) refl h
 
 -- ---- its place

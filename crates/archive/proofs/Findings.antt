@@ -36,5 +36,5 @@ last-case : (b : Bool) (n k : ℕ) → k < n → eqb (k + 1) n ≡ b → eqb (n 
 last-case true n k h e = let z = eqb-true (k + 1) n e in eq-eqb (n - (k + 1)) 0 (omega arith)
 last-case false n k h e = ne_eqb (n - (k + 1)) 0 (λ z. eqb-false (k + 1) n e (omega arith))
 
-pub last_one : (n k : ℕ) → k < n → eqb (n - (k + 1)) 0 ≡ eqb (k + 1) n
-last_one n k h = last-case (eqb (k + 1) n) n k h refl
+pub last-one : (n k : ℕ) → k < n → eqb (n - (k + 1)) 0 ≡ eqb (k + 1) n
+last-one n k h = last-case (eqb (k + 1) n) n k h refl

@@ -7,22 +7,22 @@ use mathlib.Core.Bool.{true, ◌&&◌}
 use mathlib.Core.List.{List, [], ◌∷◌}
 use lib.Dec.{eqb, ltb}
 use lib.ListN.{length}
-use Rattle.tariff.proofs.Bools.{and_left, and_right}
-use Rattle.archive.specs.Layout.{body_at}
-use Rattle.archive.specs.Reading.{Pair, pair_at, pairsFrom, pairsOf, rightLength, rightPairs, rightDirectory, sectionCount}
+use Rattle.tariff.proofs.Bools.{and-left, and-right}
+use Rattle.archive.specs.Layout.{bodyAt}
+use Rattle.archive.specs.Reading.{Pair, pairAt, pairsFrom, pairsOf, rightLength, rightPairs, rightDirectory, sectionCount}
 
-pub pairs_next : (a : List ℕ) (n i : ℕ) → i < n → pairsFrom a i (n - i) ≡ pair_at a i ∷ pairsFrom a (i + 1) (n - (i + 1))
+pub pairs-next : (a : List ℕ) (n i : ℕ) → i < n → pairsFrom a i (n - i) ≡ pairAt a i ∷ pairsFrom a (i + 1) (n - (i + 1))
 unfolding pairsFrom
-pairs_next a n i h = let m : n - i ≡ suc (n - (i + 1)) = omega arith in rw m
+pairs-next a n i h = let m : n - i ≡ suc (n - (i + 1)) = omega arith in rw m
 
 pub pairs-none : (a : List ℕ) (n i : ℕ) → n ≤ i → pairsFrom a i (n - i) ≡ []
 unfolding pairsFrom
 pairs-none a n i h = let z : n - i ≡ 0 = omega arith in rw z
 
-pub length_pairs : (a : List ℕ) (i n : ℕ) → length (pairsFrom a i n) ≡ n
+pub length-pairs : (a : List ℕ) (i n : ℕ) → length (pairsFrom a i n) ≡ n
 unfolding pairsFrom
-length_pairs a i zero = refl
-length_pairs a i (suc n) = ap suc (length_pairs a (i + 1) n)
+length-pairs a i zero = refl
+length-pairs a i (suc n) = ap suc (length-pairs a (i + 1) n)
 
 -- ---- a right pair
 
@@ -32,43 +32,43 @@ pub record Held (size : ℕ) (p : Pair) : Type 0 where
 
 length-right : (n : ℕ) → rightLength n ≡ true → (0 < n) × (n % 32 ≡ 0)
 unfolding rightLength
-length-right n h = (ltb-true 0 n (and_left (ltb 0 n) (eqb (n % 32) 0) h), eqb-true (n % 32) 0 (and_right (ltb 0 n) (eqb (n % 32) 0) h))
+length-right n h = (ltb-true 0 n (and-left (ltb 0 n) (eqb (n % 32) 0) h), eqb-true (n % 32) 0 (and-right (ltb 0 n) (eqb (n % 32) 0) h))
 
 module _ (size end : ℕ) (p : Pair) (ps : List Pair) (h : rightPairs size end (p ∷ ps) ≡ true) where
   right-head : (eqb p.0 end && rightLength p.1) ≡ true
   unfolding rightPairs
-  right-head = and_left (eqb p.0 end && rightLength p.1) (rightPairs size (end + p.1) ps) h
+  right-head = and-left (eqb p.0 end && rightLength p.1) (rightPairs size (end + p.1) ps) h
 
   pub right-start : p.0 ≡ end
-  right-start = eqb-true p.0 end (and_left (eqb p.0 end) (rightLength p.1) right-head)
+  right-start = eqb-true p.0 end (and-left (eqb p.0 end) (rightLength p.1) right-head)
 
   pub right-length : (0 < p.1) × (p.1 % 32 ≡ 0)
-  right-length = length-right p.1 (and_right (eqb p.0 end) (rightLength p.1) right-head)
+  right-length = length-right p.1 (and-right (eqb p.0 end) (rightLength p.1) right-head)
 
   pub right-rest : rightPairs size (end + p.1) ps ≡ true
   unfolding rightPairs
-  right-rest = and_right (eqb p.0 end && rightLength p.1) (rightPairs size (end + p.1) ps) h
+  right-rest = and-right (eqb p.0 end && rightLength p.1) (rightPairs size (end + p.1) ps) h
 
-right_end : (size end : ℕ) (ps : List Pair) → rightPairs size end ps ≡ true → end ≤ size
+right-end : (size end : ℕ) (ps : List Pair) → rightPairs size end ps ≡ true → end ≤ size
 unfolding rightPairs
-right_end size end [] h = let e = eqb-true end size h in omega arith
-right_end size end (p ∷ ps) h = let r = right_end size (end + p.1) ps (right-rest size end p ps h) in omega arith
+right-end size end [] h = let e = eqb-true end size h in omega arith
+right-end size end (p ∷ ps) h = let r = right-end size (end + p.1) ps (right-rest size end p ps h) in omega arith
 
 first-held : (size end : ℕ) (p : Pair) (ps : List Pair) → rightPairs size end (p ∷ ps) ≡ true → Held size p
 first-held size end p ps h =
     let e = right-start size end p ps h in
     let l = right-length size end p ps h in
-    let r = right_end size (end + p.1) ps (right-rest size end p ps h) in
+    let r = right-end size (end + p.1) ps (right-rest size end p ps h) in
     record { within = omega arith; multiple = l.1 }
 
-held-from : (a : List ℕ) (end j n i : ℕ) → rightPairs (length a) end (pairsFrom a j n) ≡ true → i < n → Held (length a) (pair_at a (j + i))
+held-from : (a : List ℕ) (end j n i : ℕ) → rightPairs (length a) end (pairsFrom a j n) ≡ true → i < n → Held (length a) (pairAt a (j + i))
 unfolding pairsFrom
 held-from a end j zero i h k = absurd (omega arith)
-held-from a end j (suc n) zero h k = let z : j + 0 ≡ j = omega arith in rw z (first-held (length a) end (pair_at a j) (pairsFrom a (j + 1) n) h)
+held-from a end j (suc n) zero h k = let z : j + 0 ≡ j = omega arith in rw z (first-held (length a) end (pairAt a j) (pairsFrom a (j + 1) n) h)
 held-from a end j (suc n) (suc i) h k =
     let z : j + suc i ≡ j + 1 + i = omega arith in
-    rw z (held-from a (end + (pair_at a j).1) (j + 1) n i (right-rest (length a) end (pair_at a j) (pairsFrom a (j + 1) n) h) (omega arith))
+    rw z (held-from a (end + (pairAt a j).1) (j + 1) n i (right-rest (length a) end (pairAt a j) (pairsFrom a (j + 1) n) h) (omega arith))
 
-pub pair_held : (a : List ℕ) (i : ℕ) → rightDirectory a ≡ true → i < sectionCount a → Held (length a) (pair_at a i)
+pub pair-held : (a : List ℕ) (i : ℕ) → rightDirectory a ≡ true → i < sectionCount a → Held (length a) (pairAt a i)
 unfolding rightDirectory pairsOf
-pair_held a i h k = let z : 0 + i ≡ i = omega arith in rw z at (held-from a (body_at (sectionCount a)) 0 (sectionCount a) i h k)
+pair-held a i h k = let z : 0 + i ≡ i = omega arith in rw z at (held-from a (bodyAt (sectionCount a)) 0 (sectionCount a) i h k)

@@ -10,12 +10,12 @@ use lib.ListN.{length, length-append}
 use Rattle.ledger.specs.Forms.{formNumber}
 use Rattle.archive.specs.Entries.{firstEntries, entriesOf, closesMonth}
 use Rattle.archive.specs.Layout.{joined, sectionsOf, concatenated}
-use Rattle.archive.specs.Reading.{misplaced, number_in, numbersIn, numbersOf}
+use Rattle.archive.specs.Reading.{misplaced, numberIn, numbersIn, numbersOf}
 use Rattle.archive.proofs.EntryLists.{length-entries, together-all, entries-of-append}
 use Rattle.archive.proofs.Splits.{no-sections}
 use Rattle.archive.proofs.Refusals.{Zeros, zeros-append, zeros-left, zeros-right}
 use Rattle.ledger.proofs.Fields.{form-length}
-use Rattle.archive.proofs.EntryNumbers.{one_entry, number-parts, within-other, ends-final}
+use Rattle.archive.proofs.EntryNumbers.{one-entry, number-parts, within-other, ends-final}
 
 -- ---- sections of whole entries, and not of none
 
@@ -32,9 +32,9 @@ pub record Sound (new : Bool) (ss : List (List ℕ)) : Type 0 where
   pub good : Good ss
   pub zeros : Zeros (numbersOf new ss)
 
-count_entries : (s : List ℕ) → length (entriesOf s) ≡ length s / 32
+count-entries : (s : List ℕ) → length (entriesOf s) ≡ length s / 32
 unfolding entriesOf
-count_entries s = length-entries (length s / 32) s
+count-entries s = length-entries (length s / 32) s
 
 -- ---- the writer's sections
 
@@ -42,29 +42,29 @@ entry-sized : (e : List ℕ) → length e ≡ 32 → Sized e
 entry-sized e h = record { some = omega arith; whole = rw h }
 
 closed : (new : Bool) (e : List ℕ) (ss : List (List ℕ)) → closesMonth e ≡ true → formNumber new e ≡ 0 → Sound new ss → Sound new (e ∷ ss)
-unfolding numbersOf numbersIn number_in misplaced
+unfolding numbersOf numbersIn numberIn misplaced
 closed new e ss k f h =
     let size : length e ≡ 32 = form-length e new f in
     record {
       good = (entry-sized e size, h.good);
-      zeros = rw (one_entry e size) (rw (f, k), h.zeros);
+      zeros = rw (one-entry e size) (rw (f, k), h.zeros);
     }
 
 joined-sized : (e s : List ℕ) → length e ≡ 32 → Sized s → Sized (e ++ s)
 joined-sized e s h k = record { some = rw length-append (omega arith); whole = rw length-append (omega arith) }
 
 joined-sound : (new : Bool) (e : List ℕ) (ss : List (List ℕ)) → closesMonth e ≡ false → formNumber new e ≡ 0 → Sound new ss → Sound new (joined e ss)
-unfolding joined numbersOf numbersIn number_in misplaced
+unfolding joined numbersOf numbersIn numberIn misplaced
 joined-sound new e [] k f h =
     let size : length e ≡ 32 = form-length e new f in
     record {
       good = (entry-sized e size, tt);
-      zeros = rw (one_entry e size) (rw (f, k), tt);
+      zeros = rw (one-entry e size) (rw (f, k), tt);
     }
 joined-sound new e (s ∷ ss) k f h =
     let size : length e ≡ 32 = form-length e new f in
-    let split : entriesOf (e ++ s) ≡ e ∷ entriesOf s = entries-of-append e s (rw size) ∙ ap (λ (l : List (List ℕ)). l ++ entriesOf s) (one_entry e size) in
-    let more : eqb (length (entriesOf s)) 0 ≡ false = ne_eqb (length (entriesOf s)) 0 (λ z. omega (arith, count_entries s, h.good.0)) in
+    let split : entriesOf (e ++ s) ≡ e ∷ entriesOf s = entries-of-append e s (rw size) ∙ ap (λ (l : List (List ℕ)). l ++ entriesOf s) (one-entry e size) in
+    let more : eqb (length (entriesOf s)) 0 ≡ false = ne_eqb (length (entriesOf s)) 0 (λ z. omega (arith, count-entries s, h.good.0)) in
     record {
       good = (joined-sized e s size h.good.0, h.good.1);
       zeros = rw (split, more) (rw (f, k), h.zeros);
@@ -121,7 +121,7 @@ no-entries = refl
 
 -- the entries of a section are some
 section-then : (new : Bool) (s : List ℕ) (fs ss es : List (List ℕ)) → Sized s → entriesOf s ≡ es → sectionsOf fs ≡ ss → Zeros (numbersIn new (eqb (length ss) 0) es) → sectionsOf (es ++ fs) ≡ concatenated es ∷ ss
-section-then new s fs ss [] g e q h = absurd (omega (arith, count_entries s, ap length e))
+section-then new s fs ss [] g e q h = absurd (omega (arith, count-entries s, ap length e))
 section-then new s fs ss (f ∷ es) g e q h = section-first new f es fs ss q h
 
 -- sections that the reader finds right are those of their entries

@@ -39,12 +39,12 @@ first-zero n i rest true e h = (eqb-true n 0 e, h)
 first-zero n i rest false e h = absurd (eqb-false n 0 e h)
 
 -- the first that is not 0, with its index
-pub first_found : (i k : ℕ) (ns : List ℕ) (n : ℕ) → ((j : ℕ) → j < k → get_or ns j 0 ≡ 0) → get_or ns k 0 ≡ n → (n ≡ 0 → ⊥) → firstRefusal i ns ≡ finding n (i + k)
+pub first-found : (i k : ℕ) (ns : List ℕ) (n : ℕ) → ((j : ℕ) → j < k → get_or ns j 0 ≡ 0) → get_or ns k 0 ≡ n → (n ≡ 0 → ⊥) → firstRefusal i ns ≡ finding n (i + k)
 unfolding firstRefusal
-first_found i k [] n h e d = absurd (d (sym e))
-first_found i zero (m ∷ ns) n h e d = let z : i + 0 ≡ i = omega arith in rw (ne_eqb m 0 (λ y. d (sym e ∙ y)), e, z)
-first_found i (suc k) (m ∷ ns) n h e d =
-    let j : i + suc k ≡ i + 1 + k = omega arith in rw (h 0 (omega arith), j) (first_found (i + 1) k ns n (λ j q. h (suc j) (omega arith)) e d)
+first-found i k [] n h e d = absurd (d (sym e))
+first-found i zero (m ∷ ns) n h e d = let z : i + 0 ≡ i = omega arith in rw (ne_eqb m 0 (λ y. d (sym e ∙ y)), e, z)
+first-found i (suc k) (m ∷ ns) n h e d =
+    let j : i + suc k ≡ i + 1 + k = omega arith in rw (h 0 (omega arith), j) (first-found (i + 1) k ns n (λ j q. h (suc j) (omega arith)) e d)
 
 pub zero-at : (ns : List ℕ) (k : ℕ) → Zeros ns → get_or ns k 0 ≡ 0
 zero-at [] k h = refl

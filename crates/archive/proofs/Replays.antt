@@ -11,8 +11,8 @@ use Rattle.ledger.specs.Running.{Line, history, run}
 use Rattle.archive.specs.Structs.{Ledger}
 use Rattle.ledger.specs.declared.answers.Posted.{Posted}
 use Rattle.archive.specs.Entries.{firstEntries}
-use Rattle.archive.specs.Replay.{count_of, asAccepted, asRefused}
-use Rattle.archive.proofs.EntryLists.{entries_next, entries_none}
+use Rattle.archive.specs.Replay.{countOf, asAccepted, asRefused}
+use Rattle.archive.proofs.EntryLists.{entries-next, entries-none}
 
 -- 1 for number 0, else 0
 abbrev pub accepting : ℕ → ℕ
@@ -29,22 +29,22 @@ pub as-accepted : (b : List ℕ) (p : Posted) → asAccepted (record { bytes = b
 unfolding asAccepted
 as-accepted b p = refl
 
-one_less : (t : Bool) → cond t 0 1 ≡ 1 - cond t 1 0
-one_less true = refl
-one_less false = refl
+one-less : (t : Bool) → cond t 0 1 ≡ 1 - cond t 1 0
+one-less true = refl
+one-less false = refl
 
 pub as-refused : (b : List ℕ) (p : Posted) → asRefused (record { bytes = b; answer = p.answer }) ≡ 1 - accepting p.answer.number
 unfolding asRefused
-as-refused b p = one_less (eqb p.answer.number 0)
+as-refused b p = one-less (eqb p.answer.number 0)
 
 module _ (f : Line → ℕ) (l : Ledger) where
-  pub count_none : count_of f (history l []) ≡ 0
-  unfolding count_of
-  count_none = refl
+  pub count-none : countOf f (history l []) ≡ 0
+  unfolding countOf
+  count-none = refl
 
-  count_next : (b : List ℕ) (bs : List (List ℕ)) → count_of f (history l (b ∷ bs)) ≡ f (record { bytes = b; answer = (posted l b).answer }) + count_of f (history (posted l b).ledger bs)
-  unfolding count_of
-  count_next b bs = refl
+  count-next : (b : List ℕ) (bs : List (List ℕ)) → countOf f (history l (b ∷ bs)) ≡ f (record { bytes = b; answer = (posted l b).answer }) + countOf f (history (posted l b).ledger bs)
+  unfolding countOf
+  count-next b bs = refl
 
 module _ (n k : ℕ) (s : List ℕ) (l : Ledger) where
   abbrev pub left : List (List ℕ)
@@ -58,17 +58,17 @@ module _ (n k : ℕ) (s : List ℕ) (l : Ledger) where
 
   pub run-turn : k < n → (p : Posted) → p ≡ posted l bytes → run p.ledger after ≡ run l left
   run-turn h p e =
-      ap (λ (q : Posted). run q.ledger after) e ∙ sym (ap (run l) (entries_next n k s h))
+      ap (λ (q : Posted). run q.ledger after) e ∙ sym (ap (run l) (entries-next n k s h))
 
-  pub count_turn : (f : Line → ℕ) (g : Posted → ℕ) → ((p : Posted) → f (record { bytes = bytes; answer = p.answer }) ≡ g p) → k < n → (p : Posted) → p ≡ posted l bytes
-      → g p + count_of f (history p.ledger after) ≡ count_of f (history l left)
-  count_turn f g same h p e =
-      ap (λ (q : Posted). g q + count_of f (history q.ledger after)) e
-      ∙ ap (λ (x : ℕ). x + count_of f (history (posted l bytes).ledger after)) (sym (same (posted l bytes)))
-      ∙ sym (ap (λ (es : List (List ℕ)). count_of f (history l es)) (entries_next n k s h) ∙ count_next f l bytes after)
+  pub count-turn : (f : Line → ℕ) (g : Posted → ℕ) → ((p : Posted) → f (record { bytes = bytes; answer = p.answer }) ≡ g p) → k < n → (p : Posted) → p ≡ posted l bytes
+      → g p + countOf f (history p.ledger after) ≡ countOf f (history l left)
+  count-turn f g same h p e =
+      ap (λ (q : Posted). g q + countOf f (history q.ledger after)) e
+      ∙ ap (λ (x : ℕ). x + countOf f (history (posted l bytes).ledger after)) (sym (same (posted l bytes)))
+      ∙ sym (ap (λ (es : List (List ℕ)). countOf f (history l es)) (entries-next n k s h) ∙ count-next f l bytes after)
 
   pub run-over : n ≤ k → run l left ≡ l
-  run-over h = ap (run l) (entries_none n k (drop (32 * k) s) h)
+  run-over h = ap (run l) (entries-none n k (drop (32 * k) s) h)
 
-  pub count-over : (f : Line → ℕ) → n ≤ k → count_of f (history l left) ≡ 0
-  count-over f h = ap (λ (es : List (List ℕ)). count_of f (history l es)) (entries_none n k (drop (32 * k) s) h) ∙ count_none f l
+  pub count-over : (f : Line → ℕ) → n ≤ k → countOf f (history l left) ≡ 0
+  count-over f h = ap (λ (es : List (List ℕ)). countOf f (history l es)) (entries-none n k (drop (32 * k) s) h) ∙ count-none f l

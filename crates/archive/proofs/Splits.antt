@@ -8,7 +8,7 @@ use lib.ListN.{length, get_or, take, drop, length-drop}
 use lib.Seq.{length-take-le, take_all, drop-drop}
 use Rattle.archive.specs.Entries.{firstEntries, entriesOf, closesMonth}
 use Rattle.archive.specs.Layout.{joined, sectionsOf, concatenated}
-use Rattle.archive.proofs.EntryLists.{entries_next, entries_none, take-entries, drop-entries, together-entries, length-entries}
+use Rattle.archive.proofs.EntryLists.{entries-next, entries-none, take-entries, drop-entries, together-entries, length-entries}
 
 -- how many entries the first section has
 unfoldable pub lead : List (List ℕ) → ℕ
@@ -71,8 +71,8 @@ module _ (n : ℕ) (s : List ℕ) (h : length s ≡ 32 * suc n) where
   unfolding firstEntries
   in-entries = first-then-rest (take 32 s) (firstEntries n (drop 32 s))
 
-  in_bytes : sectionsOf es ≡ take (32 * lead es) s ∷ sectionsOf (firstEntries (suc n - lead es) (drop (32 * lead es) s))
-  in_bytes =
+  in-bytes : sectionsOf es ≡ take (32 * lead es) s ∷ sectionsOf (firstEntries (suc n - lead es) (drop (32 * lead es) s))
+  in-bytes =
       in-entries
       ∙ ap (λ x. concatenated x ∷ sectionsOf (drop (lead es) es)) (take-entries (lead es) (suc n) s lead-within)
       ∙ ap (λ x. x ∷ sectionsOf (drop (lead es) es)) (together-entries (lead es) s)
@@ -82,20 +82,20 @@ module _ (n : ℕ) (s : List ℕ) (h : length s ≡ 32 * suc n) where
   unfolding firstEntries
   lead-some = lead-positive (take 32 s) (firstEntries n (drop 32 s))
 
-  first_of : First s (32 * lead es)
+  first-of : First s (32 * lead es)
   unfolding entriesOf
-  first_of =
+  first-of =
       let whole : length s / 32 ≡ suc n = omega arith in
       let rest : length (drop (32 * lead es) s) / 32 ≡ suc n - lead es = rw length-drop (omega (arith, lead-within)) in
       record {
-        split = rw (whole, rest) in_bytes;
+        split = rw (whole, rest) in-bytes;
         positive = omega (arith, lead-some);
         multiple = omega arith;
         within = omega (arith, lead-within);
       }
 
-  size_of : length (get_or (sectionsOf es) 0 []) ≡ 32 * lead es
-  size_of = rw in_bytes (length-take-le (32 * lead es) s (omega (arith, lead-within)))
+  size-of : length (get_or (sectionsOf es) 0 []) ≡ 32 * lead es
+  size-of = rw in-bytes (length-take-le (32 * lead es) s (omega (arith, lead-within)))
 
 -- the bytes of the first section are those of its entries
 pub first-size : (s : List ℕ) → length s % 32 ≡ 0 → length (get_or (sectionsOf (entriesOf s)) 0 []) ≡ 32 * lead (entriesOf s)
@@ -104,7 +104,7 @@ first-size s h = go (length s / 32) refl
   where
     go : (n : ℕ) → length s / 32 ≡ n → length (get_or (sectionsOf (firstEntries n s)) 0 []) ≡ 32 * lead (firstEntries n s)
     go zero e = refl
-    go (suc n) e = size_of n s (omega arith)
+    go (suc n) e = size-of n s (omega arith)
 
 first : (s : List ℕ) → length s % 32 ≡ 0 → 0 < length s → First s (length (get_or (sectionsOf (entriesOf s)) 0 []))
 unfolding entriesOf
@@ -112,7 +112,7 @@ first s h k = go (length s / 32) refl
   where
     go : (n : ℕ) → length s / 32 ≡ n → First s (length (get_or (sectionsOf (entriesOf s)) 0 []))
     go zero e = absurd (omega arith)
-    go (suc n) e = rw (first-size s h, e) (first_of n s (omega arith))
+    go (suc n) e = rw (first-size s h, e) (first-of n s (omega arith))
 
 pub no-sections : (s : List ℕ) → length s ≡ 0 → sectionsOf (entriesOf s) ≡ []
 unfolding entriesOf firstEntries sectionsOf
@@ -124,15 +124,15 @@ no-sections (x ∷ s) h = absurd (omega arith)
 module _ (n k : ℕ) (s : List ℕ) (h : k < n) where
   pub lead-here : closesMonth (take (32 * k + 32 - 32 * k) (drop (32 * k) s)) ≡ true → lead (firstEntries (n - k) (drop (32 * k) s)) ≡ 1
   unfolding lead
-  lead-here t = rw (entries_next n k s h, t)
+  lead-here t = rw (entries-next n k s h, t)
 
   pub lead-later : closesMonth (take (32 * k + 32 - 32 * k) (drop (32 * k) s)) ≡ false → lead (firstEntries (n - k) (drop (32 * k) s)) ≡ 1 + lead (firstEntries (n - (k + 1)) (drop (32 * (k + 1)) s))
   unfolding lead
-  lead-later t = rw (entries_next n k s h, t)
+  lead-later t = rw (entries-next n k s h, t)
 
 pub lead-end : (n k : ℕ) (s : List ℕ) → n ≤ k → lead (firstEntries (n - k) s) ≡ 0
 unfolding lead
-lead-end n k s h = rw (entries_none n k s h)
+lead-end n k s h = rw (entries-none n k s h)
 
 -- ---- the sections, as a loop meets them
 

@@ -8,7 +8,7 @@ use mathlib.Core.List.{List, [], ◌∷◌, ◌++◌, map, append_assoc}
 use lib.ListN.{length, get_or, take, drop, length-drop, length-append, take-append-drop, drop_of_length-le}
 use lib.Seq.{length-take-le, drop-drop, take_at, drop_at}
 use Rattle.archive.specs.Layout.{concatenated}
-use Rattle.archive.specs.Reading.{Pair, pair_at, pairsFrom, rightLength, rightPairs, part_at}
+use Rattle.archive.specs.Reading.{Pair, pairAt, pairsFrom, rightLength, rightPairs, partAt}
 use Rattle.archive.proofs.Pairs.{right-start, right-length, right-rest}
 use Rattle.archive.proofs.Partitions.{Good}
 use Rattle.archive.proofs.Directories.{pairsFor}
@@ -22,8 +22,8 @@ right-for (s ∷ ss) off end g e =
     rw (eq-eqb off off refl, lt-ltb 0 (length s) g.0.some, eq-eqb (length s % 32) 0 g.0.whole)
     (right-for ss (off + length s) end g.1 (omega (arith, length-append s (concatenated ss))))
 
-pub parts-for : (ss : List (List ℕ)) (a before : List ℕ) (off : ℕ) → a ≡ before ++ concatenated ss → length before ≡ off → map (part_at a) (pairsFor off ss) ≡ ss
-unfolding pairsFor concatenated part_at
+pub parts-for : (ss : List (List ℕ)) (a before : List ℕ) (off : ℕ) → a ≡ before ++ concatenated ss → length before ≡ off → map (partAt a) (pairsFor off ss) ≡ ss
+unfolding pairsFor concatenated partAt
 parts-for [] a before off e h = refl
 parts-for (s ∷ ss) a before off e h =
     let here : take (length s) (drop off a) ≡ s = rw (e, drop_at before (s ++ concatenated ss) off h) (take_at s (concatenated ss) (length s) refl) in
@@ -31,7 +31,7 @@ parts-for (s ∷ ss) a before off e h =
     rw here (ap (λ r. s ∷ r) (parts-for ss a (before ++ s) (off + length s) next (rw length-append (omega arith))))
 
 -- part i, of n parts from pair j on
-pub part-at : (a : List ℕ) (n j i : ℕ) → i < n → get_or (map (part_at a) (pairsFrom a j n)) i [] ≡ part_at a (pair_at a (j + i))
+pub part-at : (a : List ℕ) (n j i : ℕ) → i < n → get_or (map (partAt a) (pairsFrom a j n)) i [] ≡ partAt a (pairAt a (j + i))
 unfolding pairsFrom
 part-at a zero j i h = absurd (omega arith)
 part-at a (suc n) j zero h = let k : j + 0 ≡ j = omega arith in rw k
@@ -40,15 +40,15 @@ part-at a (suc n) j (suc i) h = let k : j + suc i ≡ j + 1 + i = omega arith in
 -- ---- right pairs: theirs are good sections, and all of the file from the offset on
 
 pub record Parted (a : List ℕ) (off : ℕ) (ps : List Pair) : Type 0 where
-  pub named : ps ≡ pairsFor off (map (part_at a) ps)
-  pub good : Good (map (part_at a) ps)
-  pub all : concatenated (map (part_at a) ps) ≡ drop off a
+  pub named : ps ≡ pairsFor off (map (partAt a) ps)
+  pub good : Good (map (partAt a) ps)
+  pub all : concatenated (map (partAt a) ps) ≡ drop off a
   pub within : off ≤ length a
 
-one_more : (a : List ℕ) (p : Pair) (ps : List Pair) → (0 < p.1) × (p.1 % 32 ≡ 0) → Parted a (p.0 + p.1) ps → Parted a p.0 (p ∷ ps)
-unfolding pairsFor concatenated part_at
-one_more a p ps h t =
-    let size : length (part_at a p) ≡ p.1 = length-take-le p.1 (drop p.0 a) (rw length-drop (omega (arith, t.within))) in
+one-more : (a : List ℕ) (p : Pair) (ps : List Pair) → (0 < p.1) × (p.1 % 32 ≡ 0) → Parted a (p.0 + p.1) ps → Parted a p.0 (p ∷ ps)
+unfolding pairsFor concatenated partAt
+one-more a p ps h t =
+    let size : length (partAt a p) ≡ p.1 = length-take-le p.1 (drop p.0 a) (rw length-drop (omega (arith, t.within))) in
     record {
       named = rw size (ap (λ r. p ∷ r) t.named);
       good = (record { some = rw size h.0; whole = rw size h.1 }, t.good);
@@ -63,4 +63,4 @@ parted a [] off h =
     record { named = refl; good = tt; all = sym (drop_of_length-le a {i = off} (omega arith)); within = omega arith }
 parted a (p ∷ ps) off h =
     subst (λ (k : ℕ). Parted a k (p ∷ ps)) (right-start (length a) off p ps h)
-    (one_more a p ps (right-length (length a) off p ps h) (rw (right-start (length a) off p ps h) (parted a ps (off + p.1) (right-rest (length a) off p ps h))))
+    (one-more a p ps (right-length (length a) off p ps h) (rw (right-start (length a) off p ps h) (parted a ps (off + p.1) (right-rest (length a) off p ps h))))

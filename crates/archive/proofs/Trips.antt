@@ -8,7 +8,7 @@ use mathlib.Core.List.{List, []}
 use lib.ListN.{length, get_or}
 use Rattle.archive.specs.Entries.{entriesOf, finding}
 use Rattle.archive.specs.Layout.{sectionsOf, packed, archiveOf}
-use Rattle.archive.specs.Reading.{sectionCount, isNew, pair_at, pairsOf, part_at, parts_of, checked, place_of, sectionAt, list_of}
+use Rattle.archive.specs.Reading.{sectionCount, isNew, pairAt, pairsOf, partAt, partsOf, checked, placeOf, sectionAt, listOf}
 use Rattle.archive.specs.RoundTrips.{Bytes, Read, ReadsBack, Remade, WritesBack}
 use Rattle.archive.proofs.ArchiveSizes.{sections-all}
 use Rattle.archive.proofs.Partitions.{Sound, cut-sound, sections-again, forms-right, together-whole}
@@ -18,9 +18,9 @@ use Rattle.archive.proofs.Acceptance.{Writable, written-tells, writable-written,
 use Rattle.archive.proofs.Packing.{count-packed, header-packed, kind-packed, directory-packed, parts-packed, list-packed, count-parts, parts-good, list-parts, packed-again}
 
 -- a section of an accepted archive is its part
-section-part : (a : List ℕ) (i : ℕ) → checked a ≡ finding 0 0 → i < sectionCount a → sectionAt a i ≡ get_or (parts_of a) i []
-unfolding sectionAt place_of finding parts_of pairsOf part_at
-section-part a i c h = rw (c, lt-ltb i (sectionCount a) h) (sym (part-at a (sectionCount a) 0 i h ∙ ap (λ (k : ℕ). part_at a (pair_at a k)) (zero-add i)))
+section-part : (a : List ℕ) (i : ℕ) → checked a ≡ finding 0 0 → i < sectionCount a → sectionAt a i ≡ get_or (partsOf a) i []
+unfolding sectionAt placeOf finding partsOf pairsOf partAt
+section-part a i c h = rw (c, lt-ltb i (sectionCount a) h) (sym (part-at a (sectionCount a) 0 i h ∙ ap (λ (k : ℕ). partAt a (pairAt a k)) (zero-add i)))
 
 -- ---- a list, written and read
 
@@ -70,19 +70,19 @@ module _ (a : List ℕ) (b : Bytes a) (r : Readable a) where
   headed : Headed a
   headed = header-checked a r.headed
 
-  cut_again : sectionsOf (entriesOf (list_of a)) ≡ parts_of a
-  cut_again = rw (list-parts a r.directed) at (sections-again (isNew a) (parts_of a) (parts-good a r.directed) r.zeros)
+  cut-again : sectionsOf (entriesOf (listOf a)) ≡ partsOf a
+  cut-again = rw (list-parts a r.directed) at (sections-again (isNew a) (partsOf a) (parts-good a r.directed) r.zeros)
 
-  same : archiveOf (isNew a) (list_of a) ≡ a
+  same : archiveOf (isNew a) (listOf a) ≡ a
   unfolding archiveOf
-  same = ap (packed (isNew a)) cut_again ∙ packed-again a r.directed b r.headed
+  same = ap (packed (isNew a)) cut-again ∙ packed-again a r.directed b r.headed
 
-  writable : Writable (isNew a) (list_of a)
+  writable : Writable (isNew a) (listOf a)
   writable =
       record {
-        whole = rw (list-parts a r.directed) at (together-whole (parts_of a) (parts-good a r.directed));
-        forms = rw (list-parts a r.directed) at (forms-right (isNew a) (parts_of a) (parts-good a r.directed) r.zeros);
-        few = rw (cut_again, count-parts a r.directed) headed.few;
+        whole = rw (list-parts a r.directed) at (together-whole (partsOf a) (parts-good a r.directed));
+        forms = rw (list-parts a r.directed) at (forms-right (isNew a) (partsOf a) (parts-good a r.directed) r.zeros);
+        few = rw (cut-again, count-parts a r.directed) headed.few;
         short = rw same headed.short;
       }
 
@@ -90,7 +90,7 @@ module _ (a : List ℕ) (b : Bytes a) (r : Readable a) where
   remade =
       record {
         same = same;
-        answer = λ room h. rw same at (writable-written (isNew a) (list_of a) room writable (rw same h));
+        answer = λ room h. rw same at (writable-written (isNew a) (listOf a) room writable (rw same h));
         fits = headed.short;
       }
 

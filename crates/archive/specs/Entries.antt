@@ -2,7 +2,7 @@
 use Rattle.tariff.specs.Vocabulary.{ℕ, zero, suc, ◌+◌, ◌/◌, Bool, cond, eqb, List, [], ◌∷◌, length, take, drop}
 use Rattle.archive.specs.Structs.{Checked}
 use Rattle.ledger.specs.Kinds.{CLOSE-MONTH}
-use Rattle.ledger.specs.Entries.{entry_of}
+use Rattle.ledger.specs.Entries.{entryOf}
 
 -- R68: the first n entries.
 unfoldable pub firstEntries : ℕ → List ℕ → List (List ℕ)
@@ -15,7 +15,7 @@ entriesOf bytes = firstEntries (length bytes / 32) bytes
 
 -- R69: whether an entry ends its section; its kind byte alone decides.
 unfoldable pub closesMonth : List ℕ → Bool
-closesMonth entry = eqb (entry_of entry).kind CLOSE-MONTH
+closesMonth entry = eqb (entryOf entry).kind CLOSE-MONTH
 
 -- R73: a number, and the index of the entry that it is about.
 unfoldable pub finding : ℕ → ℕ → Checked

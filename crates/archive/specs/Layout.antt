@@ -1,6 +1,6 @@
 -- The bytes of an archive: a head, a directory of sections, and the sections.
 use Rattle.tariff.specs.Vocabulary.{ℕ, ◌+◌, ◌*◌, Bool, cond, List, [], ◌∷◌, ◌++◌, length}
-use Rattle.archive.specs.Words.{bytes_of}
+use Rattle.archive.specs.Words.{bytesOf}
 use Rattle.archive.specs.Entries.{entriesOf, closesMonth}
 
 -- ---- sections
@@ -28,20 +28,20 @@ openingBytes new = 69 ∷ 70 ∷ 66 ∷ cond new 50 49 ∷ []
 
 -- R70: the first eight bytes.
 unfoldable pub header : Bool → ℕ → List ℕ
-header new count = openingBytes new ++ bytes_of 2 count ++ 0 ∷ 0 ∷ []
+header new count = openingBytes new ++ bytesOf 2 count ++ 0 ∷ 0 ∷ []
 
 -- R70: a pair of offset and length for each section, each beginning where the one before ends.
 unfoldable pub directory : ℕ → List (List ℕ) → List ℕ
 directory offset [] = []
-directory offset (s ∷ ss) = bytes_of 4 offset ++ bytes_of 4 (length s) ++ directory (offset + length s) ss
+directory offset (s ∷ ss) = bytesOf 4 offset ++ bytesOf 4 (length s) ++ directory (offset + length s) ss
 
 -- R70: where the first section begins, after the head and so many pairs.
-unfoldable pub body_at : ℕ → ℕ
-body_at count = 8 + 8 * count
+unfoldable pub bodyAt : ℕ → ℕ
+bodyAt count = 8 + 8 * count
 
 -- R70: the archive of some sections, old or new; nothing but the fourth byte tells which (R87).
 unfoldable pub packed : Bool → List (List ℕ) → List ℕ
-packed new ss = header new (length ss) ++ directory (body_at (length ss)) ss ++ concatenated ss
+packed new ss = header new (length ss) ++ directory (bodyAt (length ss)) ss ++ concatenated ss
 
 -- R70: the archive of a list.
 unfoldable pub archiveOf : Bool → List ℕ → List ℕ

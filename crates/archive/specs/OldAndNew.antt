@@ -1,10 +1,10 @@
 -- What sets old archives and new ones apart.
 use Rattle.tariff.specs.Vocabulary.{ℕ, ◌<◌, Bool, true, false, eqb, List, [], length, get_or, set, ◌≡◌}
-use Rattle.ledger.specs.Entries.{entry_of}
+use Rattle.ledger.specs.Entries.{entryOf}
 use Rattle.ledger.specs.OldAndNew.{isOldKind}
 use Rattle.archive.specs.Entries.{entriesOf, finding}
 use Rattle.archive.specs.Layout.{archiveOf}
-use Rattle.archive.specs.Reading.{isNew, wrongHeader, rightDirectory, parts_of, numbersOf, checked, list_of}
+use Rattle.archive.specs.Reading.{isNew, wrongHeader, rightDirectory, partsOf, numbersOf, checked, listOf}
 
 -- R87: of an archive that the reader accepts, the fourth byte tells: 50 in a new one, 49 in an old one.
 abbrev pub FourthByteTells : Type 0
@@ -20,15 +20,15 @@ OldIsNotNew = (list other : List ℕ) → archiveOf false list ≡ archiveOf tru
 
 -- R68: the entry with index k, and whether it is of one of the nine kinds of the old rules.
 unfoldable pub hasOldKind : List ℕ → ℕ → Bool
-hasOldKind a k = isOldKind (entry_of (get_or (entriesOf (list_of a)) k [])).kind
+hasOldKind a k = isOldKind (entryOf (get_or (entriesOf (listOf a)) k [])).kind
 
 -- R84: an accepted old archive holds no other kinds.
 abbrev pub OldKindsOnly : Type 0
 OldKindsOnly =
-    (a : List ℕ) (k : ℕ) → (checked a).number ≡ 0 → isNew a ≡ false → k < length (entriesOf (list_of a)) → hasOldKind a k ≡ true
+    (a : List ℕ) (k : ℕ) → (checked a).number ≡ 0 → isNew a ≡ false → k < length (entriesOf (listOf a)) → hasOldKind a k ≡ true
 
 -- R84: where an old archive's head and directory are right, the first entry of another kind gets 2 at its index, unless one before it is refused.
 abbrev pub LaterKindsRefused : Type 0
 LaterKindsRefused =
-    (a : List ℕ) (k : ℕ) → wrongHeader a ≡ false → rightDirectory a ≡ true → isNew a ≡ false → k < length (entriesOf (list_of a))
-    → hasOldKind a k ≡ false → ((j : ℕ) → j < k → get_or (numbersOf false (parts_of a)) j 0 ≡ 0) → checked a ≡ finding 2 k
+    (a : List ℕ) (k : ℕ) → wrongHeader a ≡ false → rightDirectory a ≡ true → isNew a ≡ false → k < length (entriesOf (listOf a))
+    → hasOldKind a k ≡ false → ((j : ℕ) → j < k → get_or (numbersOf false (partsOf a)) j 0 ≡ 0) → checked a ≡ finding 2 k

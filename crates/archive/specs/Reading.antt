@@ -2,9 +2,9 @@
 use Rattle.tariff.specs.Vocabulary.{ℕ, zero, suc, ◌+◌, ◌*◌, ◌%◌, Bool, true, false, cond, not, ◌&&◌, ◌||◌, eqb, ltb, List, [], ◌∷◌, ◌++◌, map, length, get_or, take, drop}
 use Rattle.archive.specs.Structs.{Checked, Place}
 use Rattle.ledger.specs.Forms.{formNumber}
-use Rattle.ledger.specs.Entries.{halfAt, word_at}
+use Rattle.ledger.specs.Entries.{halfAt, wordAt}
 use Rattle.archive.specs.Entries.{entriesOf, closesMonth, finding, firstRefusal}
-use Rattle.archive.specs.Layout.{mostBytes, mostSections, openingBytes, body_at}
+use Rattle.archive.specs.Layout.{mostBytes, mostSections, openingBytes, bodyAt}
 
 -- ---- 8: the head
 
@@ -37,7 +37,7 @@ wrongHeader a =
     || not (eqb (get_or a 6 0) 0)
     || not (eqb (get_or a 7 0) 0)
     || ltb mostSections (sectionCount a)
-    || ltb (length a) (body_at (sectionCount a))
+    || ltb (length a) (bodyAt (sectionCount a))
 
 -- ---- 9: the directory
 
@@ -46,13 +46,13 @@ abbrev pub Pair : Type 0
 Pair = ℕ × ℕ
 
 -- R72: pair i.
-unfoldable pub pair_at : List ℕ → ℕ → Pair
-pair_at a i = (word_at a (8 + 8 * i), word_at a (12 + 8 * i))
+unfoldable pub pairAt : List ℕ → ℕ → Pair
+pairAt a i = (wordAt a (8 + 8 * i), wordAt a (12 + 8 * i))
 
 -- R72: n pairs from pair i on, and all of them.
 unfoldable pub pairsFrom : List ℕ → ℕ → ℕ → List Pair
 pairsFrom a i zero = []
-pairsFrom a i (suc n) = pair_at a i ∷ pairsFrom a (i + 1) n
+pairsFrom a i (suc n) = pairAt a i ∷ pairsFrom a (i + 1) n
 
 unfoldable pub pairsOf : List ℕ → List Pair
 pairsOf a = pairsFrom a 0 (sectionCount a)
@@ -68,29 +68,29 @@ rightPairs fileEnd end (p ∷ ps) = (eqb p.0 end && rightLength p.1) && rightPai
 
 -- R72: the directory of a file.
 unfoldable pub rightDirectory : List ℕ → Bool
-rightDirectory a = rightPairs (length a) (body_at (sectionCount a)) (pairsOf a)
+rightDirectory a = rightPairs (length a) (bodyAt (sectionCount a)) (pairsOf a)
 
 -- ---- 10: the entries of the sections
 
 -- R73: the bytes at a pair, and at every pair.
-unfoldable pub part_at : List ℕ → Pair → List ℕ
-part_at a p = take p.1 (drop p.0 a)
+unfoldable pub partAt : List ℕ → Pair → List ℕ
+partAt a p = take p.1 (drop p.0 a)
 
-unfoldable pub parts_of : List ℕ → List (List ℕ)
-parts_of a = map (part_at a) (pairsOf a)
+unfoldable pub partsOf : List ℕ → List (List ℕ)
+partsOf a = map (partAt a) (pairsOf a)
 
 -- R73: a section is cut in the wrong place; `ends` says that the entry is its section's last, `final` that the section is the last.
 unfoldable pub misplaced : Bool → Bool → List ℕ → Bool
 misplaced ends final e = cond (closesMonth e) (not ends) (ends && not final)
 
 -- R73: the number of an entry, 2 to 7 before 10.
-unfoldable pub number_in : Bool → Bool → Bool → List ℕ → ℕ
-number_in new ends final e = cond (eqb (formNumber new e) 0) (cond (misplaced ends final e) 10 0) (formNumber new e)
+unfoldable pub numberIn : Bool → Bool → Bool → List ℕ → ℕ
+numberIn new ends final e = cond (eqb (formNumber new e) 0) (cond (misplaced ends final e) 10 0) (formNumber new e)
 
 -- R73: the numbers of a section's entries.
 unfoldable pub numbersIn : Bool → Bool → List (List ℕ) → List ℕ
 numbersIn new final [] = []
-numbersIn new final (e ∷ es) = number_in new (eqb (length es) 0) final e ∷ numbersIn new final es
+numbersIn new final (e ∷ es) = numberIn new (eqb (length es) 0) final e ∷ numbersIn new final es
 
 -- R73: and of all sections, in file order.
 unfoldable pub numbersOf : Bool → List (List ℕ) → List ℕ
@@ -103,7 +103,7 @@ numbersOf new (s ∷ ss) = numbersIn new (eqb (length ss) 0) (entriesOf s) ++ nu
 unfoldable pub checked : List ℕ → Checked
 checked a =
     cond (wrongHeader a) (finding 8 0)
-    (cond (rightDirectory a) (firstRefusal 0 (numbersOf (isNew a) (parts_of a)))
+    (cond (rightDirectory a) (firstRefusal 0 (numbersOf (isNew a) (partsOf a)))
     (finding 9 0))
 
 -- R74: a refusal gives an empty part.
@@ -111,18 +111,18 @@ unfoldable pub nowhere : ℕ → ℕ → Place
 nowhere number index = record { number = number; index = index; start = 0; length = 0 }
 
 -- R74: where section i lies; 13 comes only of an archive without fault.
-unfoldable pub place_of : List ℕ → ℕ → Place
-place_of a i =
+unfoldable pub placeOf : List ℕ → ℕ → Place
+placeOf a i =
     cond (eqb (checked a).number 0)
     (cond (ltb i (sectionCount a))
-    (record { number = 0; index = 0; start = (pair_at a i).0; length = (pair_at a i).1 })
+    (record { number = 0; index = 0; start = (pairAt a i).0; length = (pairAt a i).1 })
     (nowhere 13 0))
     (nowhere (checked a).number (checked a).index)
 
 -- R74: the section, as bytes of the file itself.
 unfoldable pub sectionAt : List ℕ → ℕ → List ℕ
-sectionAt a i = take (place_of a i).length (drop (place_of a i).start a)
+sectionAt a i = take (placeOf a i).length (drop (placeOf a i).start a)
 
 -- R74: all entries, in file order: what follows the directory.
-unfoldable pub list_of : List ℕ → List ℕ
-list_of a = drop (body_at (sectionCount a)) a
+unfoldable pub listOf : List ℕ → List ℕ
+listOf a = drop (bodyAt (sectionCount a)) a

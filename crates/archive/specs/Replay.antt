@@ -6,11 +6,11 @@ use Rattle.ledger.specs.Panel.{bankOf, panelOf}
 use Rattle.ledger.specs.Running.{Line, history, run, isAccepted}
 use Rattle.history.specs.History.{accepted, start, total, billed, violated, bankSum, figureSum, owedOf, daysOf, remaining, postingsOf}
 use Rattle.archive.specs.Entries.{entriesOf}
-use Rattle.archive.specs.Reading.{checked, isNew, list_of}
+use Rattle.archive.specs.Reading.{checked, isNew, listOf}
 
 -- R77: the list in an archive, an empty one if the archive is refused.
 unfoldable pub listIn : List ℕ → List ℕ
-listIn a = cond (eqb (checked a).number 0) (list_of a) []
+listIn a = cond (eqb (checked a).number 0) (listOf a) []
 
 -- R77: its entries.
 unfoldable pub entriesIn : List ℕ → List (List ℕ)
@@ -21,9 +21,9 @@ unfoldable pub freshFor : List ℕ → Ledger
 freshFor a = fresh (isNew a)
 
 -- R77: a count over postings, each as 1 or 0.
-unfoldable pub count_of : (Line → ℕ) → List Line → ℕ
-count_of f [] = 0
-count_of f (x ∷ xs) = f x + count_of f xs
+unfoldable pub countOf : (Line → ℕ) → List Line → ℕ
+countOf f [] = 0
+countOf f (x ∷ xs) = f x + countOf f xs
 
 -- R77: accepted and refused postings.
 unfoldable pub asAccepted : Line → ℕ
@@ -38,8 +38,8 @@ replayed a =
     record {
       number = (checked a).number;
       index = (checked a).index;
-      accepted = count_of asAccepted (history (freshFor a) (entriesIn a));
-      refused = count_of asRefused (history (freshFor a) (entriesIn a));
+      accepted = countOf asAccepted (history (freshFor a) (entriesIn a));
+      refused = countOf asRefused (history (freshFor a) (entriesIn a));
       ledger = run (freshFor a) (entriesIn a);
     }
 

@@ -3,7 +3,7 @@ use Rattle.tariff.specs.Vocabulary.{ℕ, ◌<◌, ◌≤◌, Bool, List, [], len
 use Rattle.archive.specs.Entries.{entriesOf, finding}
 use Rattle.archive.specs.Layout.{mostBytes, sectionsOf, concatenated, archiveOf}
 use Rattle.archive.specs.Writing.{written}
-use Rattle.archive.specs.Reading.{sectionCount, isNew, checked, sectionAt, list_of}
+use Rattle.archive.specs.Reading.{sectionCount, isNew, checked, sectionAt, listOf}
 
 -- R76: numbers that memory holds as bytes.
 abbrev pub Bytes : List ℕ → Type 0
@@ -13,7 +13,7 @@ Bytes bytes = (i : ℕ) → get_or bytes i 0 < 256
 pub record Read (new : Bool) (list : List ℕ) : Type 0 where
   pub accepted : checked (archiveOf new list) ≡ finding 0 0
   pub kind : isNew (archiveOf new list) ≡ new
-  pub whole : list_of (archiveOf new list) ≡ list
+  pub whole : listOf (archiveOf new list) ≡ list
   pub count : sectionCount (archiveOf new list) ≡ length (sectionsOf (entriesOf list))
   pub sections : (i : ℕ) → i < length (sectionsOf (entriesOf list)) → sectionAt (archiveOf new list) i ≡ get_or (sectionsOf (entriesOf list)) i []
   pub joined : concatenated (sectionsOf (entriesOf list)) ≡ list
@@ -24,8 +24,8 @@ ReadsBack = (new : Bool) (list : List ℕ) (room : ℕ) → (written new list ro
 
 -- R76: an archive is what the writer, told whether it is old or new, makes of its entries, given room enough.
 pub record Remade (a : List ℕ) : Type 0 where
-  pub same : archiveOf (isNew a) (list_of a) ≡ a
-  pub answer : (room : ℕ) → length a ≤ room → written (isNew a) (list_of a) room ≡ record { number = 0; index = 0; length = length a }
+  pub same : archiveOf (isNew a) (listOf a) ≡ a
+  pub answer : (room : ℕ) → length a ≤ room → written (isNew a) (listOf a) room ≡ record { number = 0; index = 0; length = length a }
   pub fits : length a ≤ mostBytes
 
 -- R76: this holds of every archive that the reader accepts.

@@ -3,7 +3,7 @@ use Rattle.tariff.specs.Vocabulary.{ℕ, zero, suc, pos, Bool, true, false, List
 use Rattle.ledger.specs.MarkedCases.{posting, terms, enrol, closeMonth}
 use Rattle.archive.specs.Entries.{finding}
 use Rattle.archive.specs.Writing.{unwritten, written, outputAfter}
-use Rattle.archive.specs.Reading.{checked, nowhere, place_of, sectionAt}
+use Rattle.archive.specs.Reading.{checked, nowhere, placeOf, sectionAt}
 use Rattle.archive.specs.Replay.{figuresOf, replayed}
 
 -- R83: the terms of all examples, and account 0 with MDQ 4,200 and an opening of 1,000.
@@ -58,7 +58,7 @@ pub record WorkedCases : Type 0 where
   -- R75: the output is one byte too short, and keeps its bytes.
   pub number12 : (written true list 79 ≡ unwritten 12 0) × (outputAfter true list (replicate 79 7) ≡ replicate 79 7)
   -- R74: there is no second section.
-  pub number13 : (place_of archive 1 ≡ nowhere 13 0) × (sectionAt archive 1 ≡ [])
+  pub number13 : (placeOf archive 1 ≡ nowhere 13 0) × (sectionAt archive 1 ≡ [])
   -- R84: the tenth kind is one in a new archive, and gets 2 at its index in an old one; so the writer tells, too.
   pub tenthKind :
       (checked (oneSection 50 96 (list ++ confiscated)) ≡ finding 0 0)

@@ -13,7 +13,7 @@ mod writing;
 // The types that cross the boundary; the functions that do stand below, and none of them requires anything.
 ghost use Rattle.std.specs.Prelude.{◌≡◌, ◌+◌, ◌≤◌, length};
 ghost use Rattle.archive.specs.Writing.{written, outputAfter};
-ghost use Rattle.archive.specs.Reading.{isNew, checked, place_of, sectionAt};
+ghost use Rattle.archive.specs.Reading.{isNew, checked, placeOf, sectionAt};
 ghost use Rattle.archive.specs.Replay.{replayed, figuresOf, BanksAddUp, FigureAddsUp, DebtsAddUp, DaysAddUp, StrikingChangesNothing};
 ghost use Rattle.archive.specs.YearSheet.{sheetOf};
 ghost use Rattle.archive.specs.RoundTrips.{ReadsBack, WritesBack};
@@ -77,7 +77,7 @@ pub fn check(archive: &[u8]) -> Checked
 
 // Where section i lies.
 pub fn place(archive: &[u8], i: usize) -> Place
-    ensures value { result ≡ place_of archive.now i }
+    ensures value { result ≡ placeOf archive.now i }
     ensures within { result.start + result.length ≤ length archive.now }
 {
     let c = check(archive);
@@ -105,8 +105,8 @@ pub fn section<'a, 'n, 'i>(
     index: &'i mut usize,
 ) -> &'a [u8]
     ensures part { result.now ≡ sectionAt archive.now i }
-    ensures number { number.new ≡ (place_of archive.now i).number }
-    ensures index { index.new ≡ (place_of archive.now i).index }
+    ensures number { number.new ≡ (placeOf archive.now i).number }
+    ensures index { index.new ≡ (placeOf archive.now i).index }
 {
     let p = place(archive, i);
     *number = p.number;

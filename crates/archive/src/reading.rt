@@ -1,7 +1,7 @@
 // The reader: what is wrong with an archive, and where a section lies in it.
 ghost use Rattle.std.specs.Prelude.{◌≡◌, true, false, ◌+◌, ◌*◌, ◌%◌, ◌≤◌, ◌<◌, length};
 ghost use Rattle.archive.specs.Entries.{entriesOf, firstRefusal};
-ghost use Rattle.archive.specs.Reading.{sectionCount, wrongHeader, rightDirectory, number_in, numbersIn, numbersOf, parts_of, nowhere, checked};
+ghost use Rattle.archive.specs.Reading.{sectionCount, wrongHeader, rightDirectory, numberIn, numbersIn, numbersOf, partsOf, nowhere, checked};
 ghost use Rattle.archive.specs.Replay.{listIn};
 
 use crate::entries::{Checked, closes_month};
@@ -77,7 +77,7 @@ pub fn right_directory(archive: &[u8]) -> bool
 // The number of an entry in its place: 2 to 7, then 10.
 fn number_in(is_new: bool, ends: bool, last: bool, entry: &[u8]) -> u64
     requires { 0 < length entry.now }
-    ensures { result ≡ number_in is_new ends last entry.now }
+    ensures { result ≡ numberIn is_new ends last entry.now }
 {
     let number = ledger::entry_number(is_new, entry);
     if number != 0 {
@@ -119,7 +119,7 @@ fn check_section(is_new: bool, section: &[u8], first: usize, last: bool) -> Chec
 // The first entry of the file that gets a number, the file being old or new.
 pub fn check_sections(is_new: bool, archive: &[u8]) -> Checked
     requires { (wrongHeader archive.now ≡ false) × (rightDirectory archive.now ≡ true) }
-    ensures { result ≡ firstRefusal 0 (numbersOf is_new (parts_of archive.now)) }
+    ensures { result ≡ firstRefusal 0 (numbersOf is_new (partsOf archive.now)) }
 {
     let count = section_count(archive);
     let mut first = 0;

@@ -3,7 +3,7 @@ ghost use Rattle.std.specs.Prelude.{◌≡◌, cond, ◌≤◌, eqb};
 ghost use Rattle.ledger.specs.State.{fresh};
 ghost use Rattle.ledger.specs.Running.{history, run};
 ghost use Rattle.archive.specs.Entries.{entriesOf};
-ghost use Rattle.archive.specs.Replay.{count_of, asAccepted, asRefused};
+ghost use Rattle.archive.specs.Replay.{countOf, asAccepted, asRefused};
 
 use crate::entries::Checked;
 use ledger::Ledger;
@@ -44,8 +44,8 @@ fn counted(number: u64) -> u64
 // The counts and the ledger after every entry of an old list or a new one, beside what was found of the archive that it stands in.
 pub fn post_all(is_new: bool, list: &[u8], found: Checked) -> Replay
     ensures number { (result.number ≡ found.number) × (result.index ≡ found.index) }
-    ensures accepted { result.accepted ≡ count_of asAccepted (history (fresh is_new) (entriesOf list.now)) }
-    ensures refused { result.refused ≡ count_of asRefused (history (fresh is_new) (entriesOf list.now)) }
+    ensures accepted { result.accepted ≡ countOf asAccepted (history (fresh is_new) (entriesOf list.now)) }
+    ensures refused { result.refused ≡ countOf asRefused (history (fresh is_new) (entriesOf list.now)) }
     ensures ledger { result.ledger ≡ run (fresh is_new) (entriesOf list.now) }
 {
     let n = list.len() / 32;

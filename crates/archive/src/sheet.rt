@@ -1,9 +1,9 @@
 // The year sheet: accounts by months.
 ghost use Rattle.std.specs.Prelude.{◌≡◌, cond, ◌<◌, eqb, length};
-ghost use Rattle.ledger.specs.Entries.{entry_of};
+ghost use Rattle.ledger.specs.Entries.{entryOf};
 ghost use Rattle.ledger.specs.State.{fresh};
 ghost use Rattle.archive.specs.Entries.{entriesOf};
-ghost use Rattle.archive.specs.YearSheet.{grid, noBank, cell_at, bankIn, inGasYear, closesIn, cellAfter};
+ghost use Rattle.archive.specs.YearSheet.{grid, noBank, cellAt, bankIn, inGasYear, closesIn, cellAfter};
 
 use crate::entries::closes_month;
 use crate::words::half;
@@ -20,7 +20,7 @@ pub fn empty_sheet() -> [[Units; 12]; 16]
 // Whether an entry's date lies from April of a year to March of the next.
 fn in_gas_year(entry: &[u8], year: u64) -> bool
     requires { length entry.now ≡ 32 }
-    ensures { result ≡ inGasYear year (entry_of entry.now).date }
+    ensures { result ≡ inGasYear year (entryOf entry.now).date }
 {
     let dated = half(entry, 4) as u64;
     if 4 <= entry[6] {
@@ -34,8 +34,8 @@ fn in_gas_year(entry: &[u8], year: u64) -> bool
 
 // The sheet with every account's bank in the column of a month.
 fn with_column(sheet: [[Units; 12]; 16], ledger: Ledger, month: usize) -> [[Units; 12]; 16]
-    requires { (sheet ≡ grid (cell_at sheet)) × (month < 12) }
-    ensures { result ≡ grid (λ i m. cond (eqb month m) (bankIn ledger i) (cell_at sheet i m)) }
+    requires { (sheet ≡ grid (cellAt sheet)) × (month < 12) }
+    ensures { result ≡ grid (λ i m. cond (eqb month m) (bankIn ledger i) (cellAt sheet i m)) }
 {
     let mut next = sheet;
     let mut i = 0;
@@ -74,8 +74,8 @@ fn noted(
     entry: &[u8],
     year: u64,
 ) -> [[Units; 12]; 16]
-    requires { (sheet ≡ grid (cell_at sheet)) × (length entry.now ≡ 32) }
-    ensures { result ≡ grid (λ i m. cond (closesIn year m number entry.now) (bankIn ledger i) (cell_at sheet i m)) }
+    requires { (sheet ≡ grid (cellAt sheet)) × (length entry.now ≡ 32) }
+    ensures { result ≡ grid (λ i m. cond (closesIn year m number entry.now) (bankIn ledger i) (cellAt sheet i m)) }
 {
     if number != 0 {
         return sheet;

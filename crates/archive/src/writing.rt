@@ -2,7 +2,7 @@
 ghost use Rattle.std.specs.Prelude.{◌≡◌, ◌++◌, ◌+◌, ◌*◌, ◌%◌, ◌≤◌, length, drop};
 ghost use Rattle.std.proofs.Math.Seq.{paste};
 ghost use Rattle.archive.specs.Entries.{entriesOf};
-ghost use Rattle.archive.specs.Layout.{mostBytes, mostSections, sectionsOf, header, directory, body_at, archiveOf};
+ghost use Rattle.archive.specs.Layout.{mostBytes, mostSections, sectionsOf, header, directory, bodyAt, archiveOf};
 ghost use Rattle.archive.specs.Writing.{unwritten, written};
 
 use crate::entries::check_list;
@@ -80,7 +80,7 @@ fn put_header(is_new: bool, out: &mut [u8], count: usize)
 // A pair for each section.
 fn put_directory(out: &mut [u8], list: &[u8], count: usize)
     requires { (length list.now % 32 ≡ 0) × (count ≡ length (sectionsOf (entriesOf list.now))) × (count ≤ mostSections) × (length list.now ≤ mostBytes) × (8 + 8 * count ≤ length out.old) }
-    ensures { out.new ≡ paste out.old 8 (directory (body_at count) (sectionsOf (entriesOf list.now))) (8 * count) }
+    ensures { out.new ≡ paste out.old 8 (directory (bodyAt count) (sectionsOf (entriesOf list.now))) (8 * count) }
 {
     let n = list.len();
     let first = 8 + 8 * count;

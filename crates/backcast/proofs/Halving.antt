@@ -23,8 +23,8 @@ pub record Between (x : Float) (low high : ℕ) : Type 0 where
   pub nextIsAbove : nat_abs (numerator x) < (high + 1) * denominator x
 
 module _ (x : Float) (is : isQuantity x ≡ true) where
-  pub at_first : Between x 0 1000000000
-  at_first =
+  pub at-first : Between x 0 1000000000
+  at-first =
       let q = quantity x is in
       record { ordered = omega arith; most = omega arith; notAbove = omega arith; nextIsAbove = omega (arith, q.most, denominator-pos x) }
 
@@ -32,7 +32,7 @@ module _ (x : Float) (is : isQuantity x ≡ true) where
   test : (m : ℕ) → m ≤ 1000000000 → Ieee.le (Ieee.of_int binary64 (pos m)) x ≡ leb (m * denominator x) (nat_abs (numerator x))
   test m h =
       let q = quantity x is in
-      not-below x (Ieee.of_int binary64 (pos m)) m m q.is_number (integer (pos m) (omega arith)) ∙ whole-test x q m
+      not-below x (Ieee.of_int binary64 (pos m)) m m q.isNumber (integer (pos m) (omega arith)) ∙ whole-test x q m
 
   module _ (low high middle : ℕ) (b : Between x low high) (l : low < high) (e : middle ≡ high - (high - low) / 2) where
     pub upper-half : Ieee.le (Ieee.of_int binary64 (pos middle)) x ≡ true → Between x middle high

@@ -18,20 +18,20 @@ signed-size true zero = refl
 signed-size true (suc n) = refl
 
 -- ---- products
-pub signed_product : (s t : Bool) (a b : ℕ) → signed s a *ℤ signed t b ≡ signed (unlike s t) (a * b)
-signed_product false false a b = refl
-signed_product false true a zero = rw mul-zero
-signed_product false true a (suc b) = refl
-signed_product true false zero b = rw zero-mul
-signed_product true false (suc a) b = refl
-signed_product true true zero zero = refl
-signed_product true true zero (suc b) = rw zero-mul
-signed_product true true (suc a) zero = rw mul-zero
-signed_product true true (suc a) (suc b) = refl
+pub signed-product : (s t : Bool) (a b : ℕ) → signed s a *ℤ signed t b ≡ signed (unlike s t) (a * b)
+signed-product false false a b = refl
+signed-product false true a zero = rw mul-zero
+signed-product false true a (suc b) = refl
+signed-product true false zero b = rw zero-mul
+signed-product true false (suc a) b = refl
+signed-product true true zero zero = refl
+signed-product true true zero (suc b) = rw zero-mul
+signed-product true true (suc a) zero = rw mul-zero
+signed-product true true (suc a) (suc b) = refl
 
 pub signed-times : (s : Bool) (a c : ℕ) → signed s a *ℤ pos c ≡ signed s (a * c)
 signed-times false a c = refl
-signed-times true a c = signed_product true false a c
+signed-times true a c = signed-product true false a c
 
 pub times-twice : (a : ℤ) (c d : ℕ) → a *ℤ pos c *ℤ pos d ≡ a *ℤ pos (c * d)
 times-twice (pos a) c d = ap pos (mul_assoc a c d)
@@ -41,10 +41,10 @@ both-times : (s t : Bool) (a b c d : ℕ) → signed s a *ℤ pos c *ℤ (signed
 both-times s t a b c d =
     ap (λ (z : ℤ). z *ℤ (signed t b *ℤ pos d)) (signed-times s a c)
     ∙ ap (λ (z : ℤ). signed s (a * c) *ℤ z) (signed-times t b d)
-    ∙ signed_product s t (a * c) (b * d)
+    ∙ signed-product s t (a * c) (b * d)
     ∙ ap (signed (unlike s t)) (mul-mul-mul_comm a c b d)
     ∙ sym (signed-times (unlike s t) (a * b) (c * d))
-    ∙ ap (λ (z : ℤ). z *ℤ pos (c * d)) (sym (signed_product s t a b))
+    ∙ ap (λ (z : ℤ). z *ℤ pos (c * d)) (sym (signed-product s t a b))
 
 pub times-each : (a b : ℤ) (c d : ℕ) → a *ℤ pos c *ℤ (b *ℤ pos d) ≡ a *ℤ b *ℤ pos (c * d)
 times-each (pos a) (pos b) c d = both-times false false a b c d

@@ -40,27 +40,27 @@ below-is true true zero (suc b) = le-ltb (suc b) 0 (omega arith)
 below-is true true (suc a) zero = lt-ltb 0 (suc a) (omega arith)
 below-is true true (suc a) (suc b) = leb-suc-suc (suc b) a
 
-le_not_lt : (a b : ℕ) → leb a b ≡ not (ltb b a)
-le_not_lt a b = same (leb a b) (not (ltb b a)) (λ t. le→nltb b a (leb→le a b t)) (λ t. le→leb a b (nltb→le b a t))
+le-not-lt : (a b : ℕ) → leb a b ≡ not (ltb b a)
+le-not-lt a b = same (leb a b) (not (ltb b a)) (λ t. le→nltb b a (leb→le a b t)) (λ t. le→leb a b (nltb→le b a t))
 
 not-above : (a b : ℤ) → le_z a b ≡ not (lt_z b a)
-not-above (pos a) (pos b) = le_not_lt a b
+not-above (pos a) (pos b) = le-not-lt a b
 not-above (pos a) (negsuc b) = refl
 not-above (negsuc a) (pos b) = refl
-not-above (negsuc a) (negsuc b) = le_not_lt b a
+not-above (negsuc a) (negsuc b) = le-not-lt b a
 
-or_yes : (p q : Bool) → T p ⊎ T q → T (p || q)
-or_yes true q h = tt
-or_yes false q (inl h) = absurd h
-or_yes false q (inr h) = h
+or-yes : (p q : Bool) → T p ⊎ T q → T (p || q)
+or-yes true q h = tt
+or-yes false q (inl h) = absurd h
+or-yes false q (inr h) = h
 
 or-which : (p q : Bool) → T (p || q) → T p ⊎ T q
 or-which true q h = inl tt
 or-which false q h = inr h
 
-both_yes : (p q : Bool) → T p → T q → T (p && q)
-both_yes true q h k = k
-both_yes false q h k = h
+both-yes : (p q : Bool) → T p → T q → T (p && q)
+both-yes true q h k = k
+both-yes false q h k = h
 
 first-yes : (p q : Bool) → T (p && q) → T p
 first-yes true q h = tt
@@ -70,20 +70,20 @@ second-yes : (p q : Bool) → T (p && q) → T q
 second-yes true q h = h
 second-yes false q h = absurd h
 
-eq_yes : (a b : ℕ) → a ≡ b → T (eqb a b)
-eq_yes a b e = subst (λ (k : ℕ). T (eqb a k)) e (eqb_refl a)
+eq-yes : (a b : ℕ) → a ≡ b → T (eqb a b)
+eq-yes a b e = subst (λ (k : ℕ). T (eqb a k)) e (eqb_refl a)
 
 -- below or equal, q being the test of equality
-at_most : (a b : ℕ) (q : Bool) → (T q → a ≡ b) → (a ≡ b → T q) → (ltb a b || (q && true)) ≡ leb a b
-at_most a b q f g =
+at-most : (a b : ℕ) (q : Bool) → (T q → a ≡ b) → (a ≡ b → T q) → (ltb a b || (q && true)) ≡ leb a b
+at-most a b q f g =
     same (ltb a b || (q && true)) (leb a b)
     (λ t. le→leb a b (elim (or-which (ltb a b) (q && true) t) [ inl u ↦ le_of_lt (ltb→lt a b u) | inr u ↦ le_of_eq (f (first-yes q true u)) ]))
-    (λ t. or_yes (ltb a b) (q && true) (elim (eq-or-lt_of_le (leb→le a b t)) [ inl e ↦ inr (both_yes q true (g e) tt) | inr l ↦ inl (lt→ltb a b l) ]))
+    (λ t. or-yes (ltb a b) (q && true) (elim (eq-or-lt_of_le (leb→le a b t)) [ inl e ↦ inr (both-yes q true (g e) tt) | inr l ↦ inl (lt→ltb a b l) ]))
 
 -- not below zero, against below zero or −0
 level-down : (a b : ℕ) → eqb a b && eqb a 0 ≡ le_z (pos a) (neg_ℤ (pos b))
 level-down a zero = same (eqb a 0 && eqb a 0) (leb a 0) (λ t. le→leb a 0 (le_of_eq (eqb→eq a 0 (first-yes (eqb a 0) (eqb a 0) t))))
-    (λ t. let e : a ≡ 0 = let h = leb→le a 0 t in omega arith in both_yes (eqb a 0) (eqb a 0) (eq_yes a 0 e) (eq_yes a 0 e))
+    (λ t. let e : a ≡ 0 = let h = leb→le a 0 t in omega arith in both-yes (eqb a 0) (eqb a 0) (eq-yes a 0 e) (eq-yes a 0 e))
 level-down a (suc b) = same (eqb a (suc b) && eqb a 0) false
     (λ t. let e = eqb→eq a (suc b) (first-yes (eqb a (suc b)) (eqb a 0) t) in
     let z = eqb→eq a 0 (second-yes (eqb a (suc b)) (eqb a 0) t) in
@@ -95,10 +95,10 @@ level-up zero (suc b) = rw (lt-ltb 0 (0 + suc b) (omega arith))
 level-up (suc a) b = rw (lt-ltb 0 (suc a + b) (omega arith))
 
 pub level-is : (s t : Bool) (a b : ℕ) → (below s a t b || level s a t b) ≡ le_z (signed s a) (signed t b)
-level-is false false a b = at_most a b (eqb a b) (eqb→eq a b) (eq_yes a b)
+level-is false false a b = at-most a b (eqb a b) (eqb→eq a b) (eq-yes a b)
 level-is true true a b =
-    at_most b a (eqb a b) (λ t. sym (eqb→eq a b t)) (λ e. eq_yes a b (sym e))
-    ∙ le_not_lt b a ∙ ap not (below-is true true b a) ∙ sym (not-above (neg_ℤ (pos a)) (neg_ℤ (pos b)))
+    at-most b a (eqb a b) (λ t. sym (eqb→eq a b t)) (λ e. eq-yes a b (sym e))
+    ∙ le-not-lt b a ∙ ap not (below-is true true b a) ∙ sym (not-above (neg_ℤ (pos a)) (neg_ℤ (pos b)))
 level-is false true a b = level-down a b
 level-is true false a b = level-up a b ∙ ap not (below-is false true b a) ∙ sym (not-above (neg_ℤ (pos a)) (pos b))
 

@@ -14,14 +14,14 @@ use lib.Ieee.Exact.{HasValue}
 use lib.Ieee.Fits.{down_pos}
 use lib.Ieee.Scale.{round_same}
 use Rattle.tariff.proofs.Signed.{size-neg, size-product, size-sum}
-use Rattle.backcast.specs.Doubles.{is_number, numerator, denominator}
+use Rattle.backcast.specs.Doubles.{isNumber, numerator, denominator}
 use Rattle.backcast.specs.ExactCase.{IsWhole}
-use Rattle.backcast.proofs.Integers.{difference-down, difference-up, opposite-times, signed, signed_product, signed-size, signed-times, times-each, times-sum, times-twice}
+use Rattle.backcast.proofs.Integers.{difference-down, difference-up, opposite-times, signed, signed-product, signed-size, signed-times, times-each, times-sum, times-twice}
 use Rattle.backcast.proofs.Orders.{ltZ-times}
 use Rattle.backcast.proofs.Values.{denominator-pos, lt-value}
 
 pub widen : {x : Float} {z : ℤ} {M N : ℕ} → M ≤ N → IsWhole x z M → IsWhole x z N
-widen h w = record { is_number = w.is_number; value = w.value; bounded = le_trans w.bounded h }
+widen h w = record { isNumber = w.isNumber; value = w.value; bounded = le_trans w.bounded h }
 
 -- ---- rounding a fraction that is a whole number
 scaled-pos : (n c : ℕ) → 0 < c → 0 < suc n * c
@@ -44,12 +44,12 @@ sign-is true k (pos (suc n)) c p e = absurd (never k (suc n * c) (scaled-pos n c
 sign-is true k (negsuc n) c p e = refl
 
 of-value : (x : Float) (s : Bool) (n : ℕ) (z : ℤ) → HasValue x s n 1 → z ≡ signed s n → IsWhole x z n
-unfolding is_number numerator denominator
+unfolding isNumber numerator denominator
 of-value nan s n z v e = absurd v
 of-value (inf t) s n z v e = absurd v
 of-value (fin t m e) s n z v is =
     record {
-      is_number = refl;
+      isNumber = refl;
       value =
           ap (λ (b : Bool). signed b (m * up e)) v.0 ∙ ap (signed s) (sym (mul-one (m * up e)) ∙ v.1) ∙ sym (signed-times s n (down e))
           ∙ ap (λ (i : ℤ). i *ℤ pos (down e)) (sym is);
@@ -99,11 +99,11 @@ rounded true false a b c = go (ltb a b) (ltb→lt a b) (nltb→le a b) refl
 -- ---- the operations
 module _ (M N : ℕ) where
   pub sum-whole : (x y : Float) (a b : ℤ) → IsWhole x a M → IsWhole y b N → M + N ≤ 2 ^ 53 → IsWhole (Ieee.add binary64 x y) (a +ℤ b) (M + N)
-  unfolding Ieee.add is_number numerator denominator
-  sum-whole nan y a b u v h = absurd (true≢false (sym u.is_number))
-  sum-whole (inf s) y a b u v h = absurd (true≢false (sym u.is_number))
-  sum-whole (fin s m e) nan a b u v h = absurd (true≢false (sym v.is_number))
-  sum-whole (fin s m e) (inf t) a b u v h = absurd (true≢false (sym v.is_number))
+  unfolding Ieee.add isNumber numerator denominator
+  sum-whole nan y a b u v h = absurd (true≢false (sym u.isNumber))
+  sum-whole (inf s) y a b u v h = absurd (true≢false (sym u.isNumber))
+  sum-whole (fin s m e) nan a b u v h = absurd (true≢false (sym v.isNumber))
+  sum-whole (fin s m e) (inf t) a b u v h = absurd (true≢false (sym v.isNumber))
   sum-whole (fin s m e) (fin t n d) a b u v h =
       let c = down e * down d in
       let r = rounded s t (m * up e * down d) (n * up d * down e) c in
@@ -118,26 +118,26 @@ module _ (M N : ℕ) where
       subst (λ (x : Float). IsWhole x (a +ℤ b) (M + N)) (sym r.is)
       (round-whole-number r.sign r.size c (a +ℤ b) (M + N) (mul-pos (down_pos e) (down_pos d)) value small h)
 
-  pub product_whole : (x y : Float) (a b : ℤ) → IsWhole x a M → IsWhole y b N → M * N ≤ 2 ^ 53 → IsWhole (Ieee.mul binary64 x y) (a *ℤ b) (M * N)
-  unfolding Ieee.mul is_number numerator denominator
-  product_whole nan y a b u v h = absurd (true≢false (sym u.is_number))
-  product_whole (inf s) y a b u v h = absurd (true≢false (sym u.is_number))
-  product_whole (fin s m e) nan a b u v h = absurd (true≢false (sym v.is_number))
-  product_whole (fin s m e) (inf t) a b u v h = absurd (true≢false (sym v.is_number))
-  product_whole (fin s m e) (fin t n d) a b u v h =
+  pub product-whole : (x y : Float) (a b : ℤ) → IsWhole x a M → IsWhole y b N → M * N ≤ 2 ^ 53 → IsWhole (Ieee.mul binary64 x y) (a *ℤ b) (M * N)
+  unfolding Ieee.mul isNumber numerator denominator
+  product-whole nan y a b u v h = absurd (true≢false (sym u.isNumber))
+  product-whole (inf s) y a b u v h = absurd (true≢false (sym u.isNumber))
+  product-whole (fin s m e) nan a b u v h = absurd (true≢false (sym v.isNumber))
+  product-whole (fin s m e) (inf t) a b u v h = absurd (true≢false (sym v.isNumber))
+  product-whole (fin s m e) (fin t n d) a b u v h =
       let value : signed (unlike s t) (m * up e * (n * up d)) ≡ a *ℤ b *ℤ pos (down e * down d)
-      = sym (signed_product s t (m * up e) (n * up d)) ∙ ap (λ (z : ℤ). z *ℤ signed t (n * up d)) u.value
+      = sym (signed-product s t (m * up e) (n * up d)) ∙ ap (λ (z : ℤ). z *ℤ signed t (n * up d)) u.value
       ∙ ap (λ (z : ℤ). a *ℤ pos (down e) *ℤ z) v.value ∙ times-each a b (down e) (down d) in
       let small : nat_abs (a *ℤ b) ≤ M * N = subst (λ (k : ℕ). k ≤ M * N) (sym (size-product a b)) (mul-le-mul u.bounded v.bounded) in
       round-whole-number (unlike s t) (m * up e * (n * up d)) (down e * down d) (a *ℤ b) (M * N) (mul-pos (down_pos e) (down_pos d)) value small h
 
   opposite-whole : (x : Float) (a : ℤ) → IsWhole x a M → IsWhole (Ieee.neg x) (neg_ℤ a) M
-  unfolding Ieee.neg is_number numerator denominator
-  opposite-whole nan a u = absurd (true≢false (sym u.is_number))
-  opposite-whole (inf s) a u = absurd (true≢false (sym u.is_number))
+  unfolding Ieee.neg isNumber numerator denominator
+  opposite-whole nan a u = absurd (true≢false (sym u.isNumber))
+  opposite-whole (inf s) a u = absurd (true≢false (sym u.isNumber))
   opposite-whole (fin s m e) a u =
       record {
-        is_number = refl;
+        isNumber = refl;
         value = turned s (m * up e) ∙ ap neg_ℤ u.value ∙ opposite-times a (down e);
         bounded = subst (λ (k : ℕ). k ≤ M) (sym (size-neg a)) u.bounded;
       }
@@ -156,6 +156,6 @@ below-whole M N x y a b u v =
     let d = denominator y in
     let first : numerator x *ℤ pos d ≡ a *ℤ pos (c * d) = ap (λ (z : ℤ). z *ℤ pos d) u.value ∙ times-twice a c d in
     let second : numerator y *ℤ pos c ≡ b *ℤ pos (c * d) = ap (λ (z : ℤ). z *ℤ pos c) v.value ∙ times-twice b d c ∙ ap (λ (k : ℕ). b *ℤ pos k) (mul_comm d c) in
-    lt-value x y u.is_number v.is_number
+    lt-value x y u.isNumber v.isNumber
     ∙ ap (λ (z : ℤ). lt_z z (numerator y *ℤ pos c)) first ∙ ap (λ (z : ℤ). lt_z (a *ℤ pos (c * d)) z) second
     ∙ ltZ-times a b (c * d) (mul-pos (denominator-pos x) (denominator-pos y))

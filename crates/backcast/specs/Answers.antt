@@ -3,12 +3,12 @@ use Rattle.tariff.specs.Vocabulary.{ℕ, ◌*◌, ◌/◌, pos, nat_abs, le_z, B
 use Rattle.tariff.specs.Bounds.{mostUnits}
 use Rattle.backcast.specs.Vocabulary.{Float}
 use Rattle.backcast.specs.Structs.{BackCast, LoadCurve}
-use Rattle.backcast.specs.Doubles.{is_number, numerator, denominator}
-use Rattle.backcast.specs.Load.{allNumbers, load_of}
+use Rattle.backcast.specs.Doubles.{isNumber, numerator, denominator}
+use Rattle.backcast.specs.Load.{allNumbers, loadOf}
 
 -- R91: a number from 0 to 10^9, the gas that a DELIVER may tell of; −0 is 0.
 unfoldable pub isQuantity : Float → Bool
-isQuantity x = is_number x && le_z (pos 0) (numerator x) && le_z (numerator x) (pos (mostUnits * denominator x))
+isQuantity x = isNumber x && le_z (pos 0) (numerator x) && le_z (numerator x) (pos (mostUnits * denominator x))
 
 -- R91: the greatest whole number not above a number that is not below 0.
 unfoldable pub wholePart : Float → ℕ
@@ -25,5 +25,5 @@ refused number = record { number = number; quantity = record { 0 = 0 } }
 unfoldable pub backCast : LoadCurve → Float → BackCast
 backCast curve f =
     cond (allNumbers curve f)
-    (cond (isQuantity (load_of curve f)) (accepted (wholePart (load_of curve f))) (refused 32))
+    (cond (isQuantity (loadOf curve f)) (accepted (wholePart (loadOf curve f))) (refused 32))
     (refused 31)

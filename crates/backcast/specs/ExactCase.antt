@@ -3,12 +3,12 @@ use Rattle.tariff.specs.Vocabulary.{ℕ, ◌≤◌, ℤ, pos, nat_abs, ◌+ℤ�
 use Rattle.tariff.specs.Bounds.{mostUnits}
 use Rattle.backcast.specs.Vocabulary.{Float, binary64, of_int}
 use Rattle.backcast.specs.Structs.{BackCast, LoadCurve}
-use Rattle.backcast.specs.Doubles.{is_number, numerator, denominator}
+use Rattle.backcast.specs.Doubles.{isNumber, numerator, denominator}
 use Rattle.backcast.specs.Answers.{backCast}
 
 -- R93: the double x has the whole number z for its value, of a size of at most `most`.
 pub record IsWhole (x : Float) (z : ℤ) (most : ℕ) : Type 0 where
-  pub is_number : is_number x ≡ true
+  pub isNumber : isNumber x ≡ true
   pub value : numerator x ≡ z *ℤ pos (denominator x)
   pub bounded : nat_abs z ≤ most
 

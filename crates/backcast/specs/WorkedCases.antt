@@ -3,7 +3,7 @@
 use Rattle.tariff.specs.Vocabulary.{ℕ, pos, true, false, ◌≡◌}
 use Rattle.backcast.specs.Vocabulary.{Float, nan, inf, fin, ◌^◌, binary64, round}
 use Rattle.backcast.specs.Structs.{BackCast}
-use Rattle.backcast.specs.Load.{load_of}
+use Rattle.backcast.specs.Load.{loadOf}
 use Rattle.backcast.specs.Answers.{accepted, refused, backCast}
 
 -- R89: the doubles nearest to a / b and to −a / b, and to a whole number.
@@ -54,7 +54,7 @@ pub record WorkedCases : Type 0 where
       (answerTo (minus 1 2) ≡ refused 32)
       × (answerTo (minus 1 (2 ^ 1074)) ≡ refused 32)
       × (answerTo (double 1 (2 ^ 1074)) ≡ accepted 0)
-      × (load_of (record { base = minus 0 1; slope = minus 0 1; turning = whole 1 }) (whole 0) ≡ minus 0 1)
+      × (loadOf (record { base = minus 0 1; slope = minus 0 1; turning = whole 1 }) (whole 0) ≡ minus 0 1)
       × (answerAt (minus 0 1) (minus 0 1) (whole 1) (whole 0) ≡ accepted 0)
   -- R91: 10^9, and the doubles before and after it.
   pub most :

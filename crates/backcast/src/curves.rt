@@ -1,6 +1,6 @@
 // The load curve: what a supplier's customers take at a temperature.
 ghost use Rattle.std.specs.Prelude.{◌≡◌};
-ghost use Rattle.backcast.specs.Load.{allNumbers, load_of};
+ghost use Rattle.backcast.specs.Load.{allNumbers, loadOf};
 
 use crate::doubles::is_number;
 
@@ -23,7 +23,7 @@ impl LoadCurve {
 
     // The load at temperature f, each operation rounded once.
     pub fn load(self, f: f64) -> f64
-        ensures { result ≡ load_of self f }
+        ensures { result ≡ loadOf self f }
     {
         let base = self.base;
         let turning = self.turning;

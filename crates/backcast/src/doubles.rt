@@ -1,13 +1,13 @@
 // Questions to one double.
 ghost use Rattle.std.specs.Prelude.{◌≡◌, true};
-ghost use Rattle.backcast.specs.Doubles.{is_number};
+ghost use Rattle.backcast.specs.Doubles.{isNumber};
 ghost use Rattle.backcast.specs.Answers.{isQuantity, wholePart};
 
 use tariff::bounds::MOST_UNITS;
 
 // Neither an infinity nor not-a-number.
 pub fn is_number(x: f64) -> bool
-    ensures { result ≡ is_number x }
+    ensures { result ≡ isNumber x }
 {
     let infinity = 1.0 / 0.0;
     (-infinity < x) & (x < infinity)

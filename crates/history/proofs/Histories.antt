@@ -8,8 +8,8 @@ use lib.Dec.{eqb}
 use lib.IntN.{ℤ, pos, ◌+ℤ◌, +ℤ_idr, +ℤ_idl, +ℤ_assoc}
 use lib.ListN.{length, get_or}
 use borrow.Author.Tests.{ne_eqb, not-true}
-use Rattle.tariff.proofs.Bools.{either, and_right}
-use Rattle.ledger.specs.Entries.{entry_of}
+use Rattle.tariff.proofs.Bools.{either, and-right}
+use Rattle.ledger.specs.Entries.{entryOf}
 use Rattle.ledger.specs.State.{fresh, nobody}
 use Rattle.ledger.specs.Posting.{posted}
 use Rattle.ledger.specs.Panel.{openBank, openBanks, bankOf}
@@ -19,9 +19,9 @@ use Rattle.ledger.proofs.OneStep.{Sound, Taken}
 use Rattle.ledger.proofs.EveryPosting.{step}
 use Rattle.ledger.proofs.FreshLedger.{fresh-sound, fresh-not-begun, fresh-bank, fresh-owed, fresh-days}
 use Rattle.ledger.proofs.Figures.{panel-of-sound, bank-at}
-use Rattle.history.specs.History.{accepted, entry, Known, start, after, Term, total, reported, closes, billed, violated, overFirst, of_all, transferredTo, transferredFrom, figureSum, owedOf, daysOf, remaining, postingsOf, BanksAddUp, PanelAddsUp, DebtsAddUp, DaysAddUp, StrikingChangesNothing}
-use Rattle.history.proofs.Sums.{over-cong, over_add, banks-over}
-use Rattle.history.proofs.Lines.{moved, figured, moved_sum, figured-sum, moved-figured, moved-is, balanced}
+use Rattle.history.specs.History.{accepted, entry, Known, start, after, Term, total, reported, closes, billed, violated, overFirst, ofAll, transferredTo, transferredFrom, figureSum, owedOf, daysOf, remaining, postingsOf, BanksAddUp, PanelAddsUp, DebtsAddUp, DaysAddUp, StrikingChangesNothing}
+use Rattle.history.proofs.Sums.{over-cong, over-add, banks-over}
+use Rattle.history.proofs.Lines.{moved, figured, moved-sum, figured-sum, moved-figured, moved-is, balanced}
 
 -- ---- one posting, by what is known
 
@@ -36,20 +36,20 @@ record Counted (l : Ledger) (k : Known) (x : Line) (next : Ledger) : Type 0 wher
   banks : (i : ℕ) → bankOf next i ≡ bankOf l i +ℤ moved i k x
   debts : (i : ℕ) → owedOf next i ≡ owedOf l i +ℤ billed i k x
   days : (i : ℕ) → daysOf next i ≡ daysOf l i +ℤ violated i k x
-  balances : of_all transferredTo k x ≡ of_all transferredFrom k x
+  balances : ofAll transferredTo k x ≡ ofAll transferredFrom k x
 
-counted : (l : Ledger) (k : Known) (x : Line) (next : Ledger) → Reached l k → Taken l (entry_of x.bytes) x.answer next → Counted l k x next
+counted : (l : Ledger) (k : Known) (x : Line) (next : Ledger) → Reached l k → Taken l (entryOf x.bytes) x.answer next → Counted l k x next
 unfolding owedOf daysOf billed violated reported closes after entry
 counted l k x next s t =
     record {
-      reached = record { sound = t.sound; rated = λ _. t.retainage ∙ known (eqb (entry_of x.bytes).kind 1) refl };
-      banks = λ i. t.banks i ∙ ap (λ (z : ℤ). bankOf l i +ℤ z) (sym (moved-is k x l i (λ is. s.rated (t.started (ne_eqb (entry_of x.bytes).kind 1 (λ z. omega (arith, z, is)))))));
+      reached = record { sound = t.sound; rated = λ _. t.retainage ∙ known (eqb (entryOf x.bytes).kind 1) refl };
+      banks = λ i. t.banks i ∙ ap (λ (z : ℤ). bankOf l i +ℤ z) (sym (moved-is k x l i (λ is. s.rated (t.started (ne_eqb (entryOf x.bytes).kind 1 (λ z. omega (arith, z, is)))))));
       debts = t.debts;
       days = t.days;
       balances = balanced k x t.parties;
     }
   where
-    known : (first : Bool) → eqb (entry_of x.bytes).kind 1 ≡ first → cond first (entry_of x.bytes).w4 l.terms.retainage ≡ cond first (entry_of x.bytes).w4 k.retainage
+    known : (first : Bool) → eqb (entryOf x.bytes).kind 1 ≡ first → cond first (entryOf x.bytes).w4 l.terms.retainage ≡ cond first (entryOf x.bytes).w4 k.retainage
     known true z = refl
     known false z = s.rated (t.started z)
 
@@ -106,7 +106,7 @@ module _ (measure : Ledger → ℤ) (term : Term) (adds : (l : Ledger) (k : Know
 -- ---- the claims
 
 pub banks-add-up : BanksAddUp
-banks-add-up new bs i h = from-fresh (λ l. bankOf l i) (moved i) (λ l k x next t. t.banks i) new (fresh-bank new i) bs ∙ moved_sum i (accepted (history (fresh new) bs))
+banks-add-up new bs i h = from-fresh (λ l. bankOf l i) (moved i) (λ l k x next t. t.banks i) new (fresh-bank new i) bs ∙ moved-sum i (accepted (history (fresh new) bs))
 
 pub debts-add-up : DebtsAddUp
 debts-add-up new bs i h = from-fresh (λ l. owedOf l i) (billed i) (λ l k x next t. t.debts i) new (unfold owedOf in fresh-owed new i) bs
@@ -116,10 +116,10 @@ days-add-up new bs i h = from-fresh (λ l. daysOf l i) (violated i) (λ l k x ne
 
 -- all banks together: what some accounts gave others received
 figure-adds : (l : Ledger) (k : Known) (x : Line) (next : Ledger) → Counted l k x next → overFirst 16 (bankOf next) ≡ overFirst 16 (bankOf l) +ℤ figured k x
-unfolding of_all
+unfolding ofAll
 figure-adds l k x next t =
     over-cong 16 (bankOf next) (λ i. bankOf l i +ℤ moved i k x) t.banks
-    ∙ over_add 16 (bankOf l) (λ i. moved i k x)
+    ∙ over-add 16 (bankOf l) (λ i. moved i k x)
     ∙ ap (λ (z : ℤ). overFirst 16 (bankOf l) +ℤ z) (moved-figured k x t.balances)
 
 fresh-figure : (new : Bool) → overFirst 16 (bankOf (fresh new)) ≡ pos 0
@@ -165,7 +165,7 @@ strike l k (b ∷ bs) (m ∷ ms) s =
         → (history (posted l b).ledger (postingsOf rest) ≡ rest) × (run (posted l b).ledger (postingsOf rest) ≡ run (posted l b).ledger bs)
         → (history l (postingsOf (cond t rest (x ∷ rest))) ≡ cond t rest (x ∷ rest)) × (run l (postingsOf (cond t rest (x ∷ rest))) ≡ run (posted l b).ledger bs)
     go true z ih =
-        let same-ledger = (step l b s.sound).kept (not-true (eqb (posted l b).answer.number 0) (and_right m (not (eqb (posted l b).answer.number 0)) z)) in
+        let same-ledger = (step l b s.sound).kept (not-true (eqb (posted l b).answer.number 0) (and-right m (not (eqb (posted l b).answer.number 0)) z)) in
         (ap (λ (n : Ledger). history n (postingsOf rest)) (sym same-ledger) ∙ ih.0, ap (λ (n : Ledger). run n (postingsOf rest)) (sym same-ledger) ∙ ih.1)
     go false z ih = (ap (λ (xs : List Line). x ∷ xs) ih.0, ih.1)
 

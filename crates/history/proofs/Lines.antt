@@ -8,7 +8,7 @@ use lib.IntN.{ℤ, pos, neg_ℤ, ◌-ℤ◌, +ℤ_idl, +ℤ_idr, +ℤ-neg_ℤ_ca
 use lib.ListN.{get_or}
 use borrow.Author.Tests.{eqb-true, ne_eqb}
 use Rattle.tariff.specs.Amounts.{inward, outward}
-use Rattle.ledger.specs.Entries.{entry_of, companySells}
+use Rattle.ledger.specs.Entries.{entryOf, companySells}
 use Rattle.ledger.specs.Answers.{quiet}
 use Rattle.ledger.specs.Deliver.{amountUnder}
 use Rattle.ledger.specs.Running.{Line}
@@ -17,8 +17,8 @@ use Rattle.ledger.specs.declared.answers.Report.{Report}
 use Rattle.ledger.specs.declared.entries.Entry.{Entry}
 use Rattle.ledger.proofs.ClosedAccounts.{quiet-in, quiet-out, quiet-forfeit, quiet-bill, quiet-mask}
 use Rattle.ledger.proofs.OneStep.{gainAt, reportAt}
-use Rattle.history.specs.History.{entry, Known, start, Term, total, byA, byB, openedWith, deliveredTo, soldTo, boughtFrom, transferredTo, transferredFrom, closes, reported, cashedIn, cashedOut, forfeited, billed, violated, bankSum, of_all, figureSum, OnlyClosingsCount}
-use Rattle.history.proofs.Sums.{chain, total-chain, over-chain, only_one}
+use Rattle.history.specs.History.{entry, Known, start, Term, total, byA, byB, openedWith, deliveredTo, soldTo, boughtFrom, transferredTo, transferredFrom, closes, reported, cashedIn, cashedOut, forfeited, billed, violated, bankSum, ofAll, figureSum, OnlyClosingsCount}
+use Rattle.history.proofs.Sums.{chain, total-chain, over-chain, only-one}
 
 -- what a line moves for account i, and for all accounts together where its transfers balance
 unfoldable pub moved : ℕ → Term
@@ -28,20 +28,20 @@ none : Term
 none k x = pos 0
 
 pub figured : Term
-figured k x = chain (of_all openedWith k x) (of_all deliveredTo k x) (of_all soldTo k x) (of_all boughtFrom k x) (none k x) (none k x) (of_all cashedIn k x) (of_all cashedOut k x) (of_all forfeited k x)
+figured k x = chain (ofAll openedWith k x) (ofAll deliveredTo k x) (ofAll soldTo k x) (ofAll boughtFrom k x) (none k x) (none k x) (ofAll cashedIn k x) (ofAll cashedOut k x) (ofAll forfeited k x)
 
-pub moved_sum : (i : ℕ) (xs : List Line) → total (moved i) start xs ≡ bankSum i xs
+pub moved-sum : (i : ℕ) (xs : List Line) → total (moved i) start xs ≡ bankSum i xs
 unfolding moved bankSum
-moved_sum i xs = total-chain (openedWith i) (deliveredTo i) (soldTo i) (boughtFrom i) (transferredTo i) (transferredFrom i) (cashedIn i) (cashedOut i) (forfeited i) start xs
+moved-sum i xs = total-chain (openedWith i) (deliveredTo i) (soldTo i) (boughtFrom i) (transferredTo i) (transferredFrom i) (cashedIn i) (cashedOut i) (forfeited i) start xs
 
 pub figured-sum : (xs : List Line) → total figured start xs ≡ figureSum xs
 unfolding figured figureSum
 figured-sum xs =
-    total-chain (of_all openedWith) (of_all deliveredTo) (of_all soldTo) (of_all boughtFrom) none none (of_all cashedIn) (of_all cashedOut) (of_all forfeited) start xs
+    total-chain (ofAll openedWith) (ofAll deliveredTo) (ofAll soldTo) (ofAll boughtFrom) none none (ofAll cashedIn) (ofAll cashedOut) (ofAll forfeited) start xs
     ∙ rw +ℤ-neg_ℤ_cancel
 
-pub moved-figured : (k : Known) (x : Line) → of_all transferredTo k x ≡ of_all transferredFrom k x → of_all moved k x ≡ figured k x
-unfolding moved figured of_all
+pub moved-figured : (k : Known) (x : Line) → ofAll transferredTo k x ≡ ofAll transferredFrom k x → ofAll moved k x ≡ figured k x
+unfolding moved figured ofAll
 moved-figured k x h =
     rw (
       over-chain 16 (λ i. openedWith i k x) (λ i. deliveredTo i k x) (λ i. soldTo i k x) (λ i. boughtFrom i k x) (λ i. transferredTo i k x) (λ i. transferredFrom i k x) (λ i. cashedIn i k x) (λ i. cashedOut i k x) (λ i. forfeited i k x),
@@ -73,9 +73,9 @@ only-closings-count i k x d8 d9 =
 -- ---- a line of any kind
 
 -- a property of kinds: at each kind that moves gas, and at all others
-by_kind : (P : ℕ → Type 0) → P 2 → P 3 → P 4 → P 5 → P 8 → P 9
+by-kind : (P : ℕ → Type 0) → P 2 → P 3 → P 4 → P 5 → P 8 → P 9
     → ((n : ℕ) → eqb n 2 ≡ false → eqb n 3 ≡ false → eqb n 4 ≡ false → eqb n 5 ≡ false → eqb n 8 ≡ false → eqb n 9 ≡ false → P n) → (n : ℕ) → P n
-by_kind P p2 p3 p4 p5 p8 p9 others n =
+by-kind P p2 p3 p4 p5 p8 p9 others n =
     at 2 p2 (λ d2. at 3 p3 (λ d3. at 4 p4 (λ d4. at 5 p5 (λ d5. at 8 p8 (λ d8. at 9 p9 (λ d9. others n d2 d3 d4 d5 d8 d9))))))
   where
     at : (m : ℕ) → P m → (eqb n m ≡ false → P n) → P n
@@ -87,14 +87,14 @@ by_kind P p2 p3 p4 p5 p8 p9 others n =
 
 ruleset zeros = (quiet-in, quiet-out, quiet-forfeit, +ℤ_idl, +ℤ_idr)
 
-by_side : (t u : Bool) (w : ℤ) → cond (t && u) w (pos 0) -ℤ cond (t && not u) w (pos 0) ≡ cond t (cond u w (neg_ℤ w)) (pos 0)
-by_side true true w = +ℤ_idr w
-by_side true false w = +ℤ_idl (neg_ℤ w)
-by_side false u w = refl
+by-side : (t u : Bool) (w : ℤ) → cond (t && u) w (pos 0) -ℤ cond (t && not u) w (pos 0) ≡ cond t (cond u w (neg_ℤ w)) (pos 0)
+by-side true true w = +ℤ_idr w
+by-side true false w = +ℤ_idl (neg_ℤ w)
+by-side false u w = refl
 
 module _ (k : Known) (x : Line) where
   abbrev e : Entry
-  e = entry_of x.bytes
+  e = entryOf x.bytes
 
   module _ (l : Ledger) (i : ℕ) where
     abbrev movedBy : ℕ → ℤ
@@ -116,7 +116,7 @@ module _ (k : Known) (x : Line) where
     agreed : (n : ℕ) → Agreed n
     unfolding Agreed
     agreed =
-        by_kind Agreed (λ r. simp zeros) (λ r. rw (r refl) (simp zeros)) (λ r. simp zeros) (λ r. simp zeros (by_side (eqb e.a i) (companySells e) (pos e.w1)))
+        by-kind Agreed (λ r. simp zeros) (λ r. rw (r refl) (simp zeros)) (λ r. simp zeros) (λ r. simp zeros (by-side (eqb e.a i) (companySells e) (pos e.w1)))
         (λ r. simp +ℤ_idl) (λ r. simp +ℤ_idl) (λ n d2 d3 d4 d5 d8 d9 r. rw (d2, d3, d4, d5, d8, d9) (simp zeros))
 
     pub moved-is : (e.kind ≡ 3 → l.terms.retainage ≡ k.retainage) → moved i k x ≡ gainAt e.kind l e x.answer i
@@ -124,12 +124,12 @@ module _ (k : Known) (x : Line) where
     moved-is = agreed e.kind
 
   -- what a transfer takes from one account it brings to the other
-  pub balanced : (e.kind ≡ 4 → (e.a < 16) × (e.b < 16)) → of_all transferredTo k x ≡ of_all transferredFrom k x
-  unfolding of_all transferredTo transferredFrom byA byB entry
+  pub balanced : (e.kind ≡ 4 → (e.a < 16) × (e.b < 16)) → ofAll transferredTo k x ≡ ofAll transferredFrom k x
+  unfolding ofAll transferredTo transferredFrom byA byB entry
   balanced within = go (eqb e.kind 4) refl
     where
-      go : (t : Bool) → eqb e.kind 4 ≡ t → of_all transferredTo k x ≡ of_all transferredFrom k x
+      go : (t : Bool) → eqb e.kind 4 ≡ t → ofAll transferredTo k x ≡ ofAll transferredFrom k x
       go true z =
           let h = within (eqb-true e.kind 4 z) in
-          rw z (only_one e.b (pos e.w1) h.1 ∙ sym (only_one e.a (pos e.w1) h.0))
+          rw z (only-one e.b (pos e.w1) h.1 ∙ sym (only-one e.a (pos e.w1) h.0))
       go false z = rw z

@@ -41,10 +41,10 @@ unfolding overFirst
 over-cong zero f g h = refl
 over-cong (suc n) f g h = rw (over-cong n f g h, h n)
 
-pub over_add : (n : ℕ) (f g : ℕ → ℤ) → overFirst n (λ i. f i +ℤ g i) ≡ overFirst n f +ℤ overFirst n g
+pub over-add : (n : ℕ) (f g : ℕ → ℤ) → overFirst n (λ i. f i +ℤ g i) ≡ overFirst n f +ℤ overFirst n g
 unfolding overFirst
-over_add zero f g = refl
-over_add (suc n) f g = rw (over_add n f g) (simp sorted)
+over-add zero f g = refl
+over-add (suc n) f g = rw (over-add n f g) (simp sorted)
 
 pub over-chain : (n : ℕ) (o d s p ti to ci co f : ℕ → ℤ)
     → overFirst n (λ i. chain (o i) (d i) (s i) (p i) (ti i) (to i) (ci i) (co i) (f i))
@@ -68,16 +68,16 @@ only-first (suc n) a w = ap (λ (z : ℤ). z +ℤ cond (eqb a n) w (pos 0)) (onl
     go false false true p q r = absurd (omega (arith, eqb-false a n p, ltb-false a n q, ltb-true a (suc n) r))
     go false false false p q r = refl
 
-pub only_one : (a : ℕ) (w : ℤ) → a < 16 → overFirst 16 (λ i. cond (eqb a i) w (pos 0)) ≡ w
-only_one a w h = only-first 16 a w ∙ rw (lt-ltb a 16 h)
+pub only-one : (a : ℕ) (w : ℤ) → a < 16 → overFirst 16 (λ i. cond (eqb a i) w (pos 0)) ≡ w
+only-one a w h = only-first 16 a w ∙ rw (lt-ltb a 16 h)
 
 -- the open banks, from the first account on or up to the last
-from_first : (n : ℕ) (f : ℕ → ℤ) → overFirst (suc n) (λ i. f i) ≡ f 0 +ℤ overFirst n (λ i. f (suc i))
+from-first : (n : ℕ) (f : ℕ → ℤ) → overFirst (suc n) (λ i. f i) ≡ f 0 +ℤ overFirst n (λ i. f (suc i))
 unfolding overFirst
-from_first zero f = +ℤ_comm (pos 0) (f 0)
-from_first (suc n) f = rw (from_first n f) (+ℤ_assoc (f 0) (overFirst n (λ i. f (suc i))) (f (suc n)))
+from-first zero f = +ℤ_comm (pos 0) (f 0)
+from-first (suc n) f = rw (from-first n f) (+ℤ_assoc (f 0) (overFirst n (λ i. f (suc i))) (f (suc n)))
 
 pub banks-over : (xs : List Account) → openBanks xs ≡ overFirst (length xs) (λ i. openBank (get_or xs i nobody))
 unfolding overFirst
 banks-over [] = no-banks
-banks-over (y ∷ ys) = one-bank-more y ys ∙ rw (banks-over ys) (sym (from_first (length ys) (λ i. openBank (get_or (y ∷ ys) i nobody))))
+banks-over (y ∷ ys) = one-bank-more y ys ∙ rw (banks-over ys) (sym (from-first (length ys) (λ i. openBank (get_or (y ∷ ys) i nobody))))

@@ -6,7 +6,7 @@ use Rattle.ledger.specs.declared.state.Ledger.{Ledger}
 use Rattle.ledger.specs.declared.answers.Report.{Report}
 use Rattle.tariff.specs.Amounts.{inward, outward}
 use Rattle.ledger.specs.Kinds.{TERMS, ENROL, DELIVER, TRANSFER, TRADE, CLOSE-DAY, CLOSE-MONTH}
-use Rattle.ledger.specs.Entries.{entry_of, companySells}
+use Rattle.ledger.specs.Entries.{entryOf, companySells}
 use Rattle.ledger.specs.State.{fresh, accountAt}
 use Rattle.ledger.specs.Answers.{quiet}
 use Rattle.ledger.specs.Deliver.{amountUnder}
@@ -20,7 +20,7 @@ accepted (x ∷ xs) = cond (isAccepted x) (x ∷ accepted xs) (accepted xs)
 
 -- R61: the fields of a posting.
 unfoldable pub entry : Line → Entry
-entry x = entry_of x.bytes
+entry x = entryOf x.bytes
 
 -- ---- what accepted postings leave for later ones to go by
 
@@ -126,19 +126,19 @@ unfoldable pub overFirst : ℕ → (ℕ → ℤ) → ℤ
 overFirst zero f = pos 0
 overFirst (suc n) f = overFirst n f +ℤ f n
 
-unfoldable pub of_all : (ℕ → Term) → Term
-of_all term k x = overFirst 16 (λ i. term i k x)
+unfoldable pub ofAll : (ℕ → Term) → Term
+ofAll term k x = overFirst 16 (λ i. term i k x)
 
 -- R63: of all accounts together, without transfers, which only move gas among them.
 unfoldable pub figureSum : List Line → ℤ
 figureSum xs =
-    total (of_all openedWith) start xs
-    +ℤ total (of_all deliveredTo) start xs
-    +ℤ total (of_all soldTo) start xs
-    -ℤ total (of_all boughtFrom) start xs
-    +ℤ total (of_all cashedIn) start xs
-    -ℤ total (of_all cashedOut) start xs
-    -ℤ total (of_all forfeited) start xs
+    total (ofAll openedWith) start xs
+    +ℤ total (ofAll deliveredTo) start xs
+    +ℤ total (ofAll soldTo) start xs
+    -ℤ total (ofAll boughtFrom) start xs
+    +ℤ total (ofAll cashedIn) start xs
+    -ℤ total (ofAll cashedOut) start xs
+    -ℤ total (ofAll forfeited) start xs
 
 -- ---- what the last ledger holds of account i beside its bank
 

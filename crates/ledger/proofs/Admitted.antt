@@ -6,9 +6,9 @@ use lib.Dec.{eqb, leb}
 use borrow.Author.Tests.{eqb-true, eq-eqb, ne_eqb, not-false}
 use Rattle.tariff.specs.Dates.{real, sameDate}
 use Rattle.ledger.specs.Checks.{verdict}
-use Rattle.ledger.specs.Kinds.{kind_of, version}
+use Rattle.ledger.specs.Kinds.{kindOf, version}
 use Rattle.ledger.specs.Forms.{fieldChecks, fieldNumber, entryChecks, entryNumber}
-use Rattle.ledger.specs.Ranges.{in_range}
+use Rattle.ledger.specs.Ranges.{inRange}
 use Rattle.ledger.specs.Days.{wrongDay}
 use Rattle.ledger.specs.State.{heldIn}
 use Rattle.ledger.specs.Posting.{standingChecks, admission}
@@ -43,18 +43,18 @@ module _ (l : Ledger) (e : Entry) where
 -- the number of an entry right in itself has none of 2 to 7
 pub own-right : (new : Bool) (e : Entry) → entryNumber new e ≡ 0 → fieldNumber e ≡ 0
 unfolding entryNumber entryChecks fieldNumber verdict
-own-right new e z = (first (not (leb (kind_of e.kind).since (version new))) 2 (fieldNumber e) refl z).1
+own-right new e z = (first (not (leb (kindOf e.kind).since (version new))) 2 (fieldNumber e) refl z).1
 
 module _ (l : Ledger) (e : Entry) (h : admission l e ≡ 0) where
-  pub is_right : fieldNumber e ≡ 0
-  is_right = own-right l.is_new e (own-number l e h)
+  pub is-right : fieldNumber e ≡ 0
+  is-right = own-right l.is_new e (own-number l e h)
 
-  pub is_real : real e.date ≡ true
-  is_real = right.is_real e is_right
+  pub is-real : real e.date ≡ true
+  is-real = right.is-real e is-right
 
-  pub is-ranged : in_range l ≡ true
+  pub is-ranged : inRange l ≡ true
   unfolding admission entryChecks fieldChecks standingChecks
-  is-ranged = not-false (in_range l) (clear _ refl h 6)
+  is-ranged = not-false (inRange l) (clear _ refl h 6)
 
   not-begun-checked : not l.begun && not (eqb e.kind 1) ≡ false
   unfolding admission entryChecks fieldChecks standingChecks

@@ -14,11 +14,11 @@ use Rattle.tariff.proofs.Bools.{either, parts}
 use Rattle.tariff.proofs.Forfeits.{forfeit-stays}
 use Rattle.ledger.specs.Structs.{Account, Change, Closed, Entry, Kind, Ledger, Posted, Terms}
 use Rattle.ledger.specs.Checks.{Check, verdict}
-use Rattle.ledger.specs.Kinds.{kind_of, lookup, version}
-use Rattle.ledger.specs.Entries.{dayNamed, entry_of, pricesOf}
+use Rattle.ledger.specs.Kinds.{kindOf, lookup, version}
+use Rattle.ledger.specs.Entries.{dayNamed, entryOf, pricesOf}
 use Rattle.ledger.specs.Forms.{entryChecks, fieldChecks}
 use Rattle.ledger.specs.State.{accountAt, heldIn, withAccount, withBank, withCapacity, withCarry, withExcuse, withHolidays, withMeasure, withMonth}
-use Rattle.ledger.specs.Ranges.{accountInRange, everyAccount, in_range}
+use Rattle.ledger.specs.Ranges.{accountInRange, everyAccount, inRange}
 use Rattle.ledger.specs.Answers.{plain, refused, settle}
 use Rattle.ledger.specs.Terms.{postTerms, termsChecks, termsNext}
 use Rattle.ledger.specs.Transfer.{giver, postTransfer, receiver, transferChecks}
@@ -29,13 +29,13 @@ use Rattle.ledger.specs.Posting.{admission, changeOf, postEntry, postKind, postS
 use Rattle.ledger.specs.OldAndNew.{AcceptsAlike, AlikeOtherwise, OnlyNew, ReportsAlike, SameButForfeit, told}
 use Rattle.ledger.proofs.KindCases.{done, each, ◌then◌}
 use Rattle.ledger.proofs.Lists.{withAccounts}
-use Rattle.ledger.proofs.OldLedgers.{month-reported, none_named}
+use Rattle.ledger.proofs.OldLedgers.{month-reported, none-named}
 
 -- ---- the kinds that there are
 
 -- but for those that only new ledgers have, a number is a kind of both or of neither
-same-since : (kind : ℕ) → (OnlyNew kind → ⊥) → leb (kind_of kind).since 2 ≡ leb (kind_of kind).since 1
-unfolding kind_of
+same-since : (kind : ℕ) → (OnlyNew kind → ⊥) → leb (kindOf kind).since 2 ≡ leb (kindOf kind).since 1
+unfolding kindOf
 same-since kind =
     each (λ (k : Kind). (k.since ≡ 2 → ⊥) → leb k.since 2 ≡ leb k.since 1) kind _
     ((λ _ _. refl) then (λ _ _. refl) then (λ _ _. refl) then (λ _ _. refl) then (λ _ _. refl) then (λ _ _. refl) then (λ _ _. refl) then (λ _ _. refl) then (λ _ _. refl)
@@ -45,14 +45,14 @@ same-since kind =
     (λ _. refl)
 
 nine-is-old : (kind : ℕ) → kind ≡ 9 → OnlyNew kind → ⊥
-unfolding kind_of lookup
-nine-is-old kind nine new = let one : (kind_of kind).since ≡ 1 = rw nine in omega (arith, one, new)
+unfolding kindOf lookup
+nine-is-old kind nine new = let one : (kindOf kind).since ≡ 1 = rw nine in omega (arith, one, new)
 
-same_version : (new old : Bool) (kind : ℕ) → (OnlyNew kind → ⊥) → leb (kind_of kind).since (version new) ≡ leb (kind_of kind).since (version old)
-same_version true true kind d = refl
-same_version true false kind d = same-since kind d
-same_version false true kind d = sym (same-since kind d)
-same_version false false kind d = refl
+same-version : (new old : Bool) (kind : ℕ) → (OnlyNew kind → ⊥) → leb (kindOf kind).since (version new) ≡ leb (kindOf kind).since (version old)
+same-version true true kind d = refl
+same-version true false kind d = same-since kind d
+same-version false true kind d = sym (same-since kind d)
+same-version false false kind d = refl
 
 -- ---- the closing of an account
 
@@ -118,9 +118,9 @@ module _ (new old : Bool) (t : Terms) (e : Entry) (d : e.kind ≡ 9 → ⊥) whe
       one : (a : Account) → closingOf new t e a ≡ closingOf old t e a
       one a = cc (ne_eqb e.kind 9 d)
 
-  same_after : afterClosing new t e ≡ afterClosing old t e
+  same-after : afterClosing new t e ≡ afterClosing old t e
   unfolding afterClosing
-  same_after = λ i a. (same-closing i a).account
+  same-after = λ i a. (same-closing i a).account
 
   same-reports : reportOf new t e ≡ reportOf old t e
   unfolding reportOf
@@ -150,8 +150,8 @@ module _ (l : Ledger) (new : Bool) where
       go false = refl
 
   admission-twin : (e : Entry) → (OnlyNew e.kind → ⊥) → admission (told new l) e ≡ admission l e
-  unfolding admission entryChecks standingChecks in_range told heldIn
-  admission-twin e c = ap (λ (known : Bool). verdict ((not known, 2) ∷ fieldChecks e ++ standingChecks l e)) (same_version new l.is_new e.kind c)
+  unfolding admission entryChecks standingChecks inRange told heldIn
+  admission-twin e c = ap (λ (known : Bool). verdict ((not known, 2) ∷ fieldChecks e ++ standingChecks l e)) (same-version new l.is_new e.kind c)
 
   module _ (e : Entry) where
     stored-twin : (c : Change) → stored (told new l) e.a c ≡ twin (stored l e.a c)
@@ -159,7 +159,7 @@ module _ (l : Ledger) (new : Bool) where
     stored-twin c = settled-twin c.number (withAccount l e.a c.account)
 
     terms-twin : postTerms (told new l) e ≡ twin (postTerms l e)
-    unfolding postTerms termsChecks termsNext in_range told
+    unfolding postTerms termsChecks termsNext inRange told
     terms-twin = settled-twin (verdict (termsChecks l e)) (termsNext l e)
 
     transfer-twin : postTransfer (told new l) e ≡ twin (postTransfer l e)
@@ -182,7 +182,7 @@ module _ (l : Ledger) (new : Bool) where
       unfolding closed told
       closed-twin =
           let reports = same-reports new l.is_new l.terms e d in
-          let accounts = same_after new l.is_new l.terms e d in
+          let accounts = same-after new l.is_new l.terms e d in
           λ i. record {
             answer = record { number = 0; reports = map (reports i) l.accounts };
             ledger = told new (withAccounts (closed l e).ledger (map (accounts i) l.accounts));
@@ -204,7 +204,7 @@ module _ (l : Ledger) (new : Bool) where
 
       kind-twin : postKind (told new l) e ≡ twin (postKind l e)
       unfolding postKind accountAt told
-      kind-twin = choose (eqb (kind_of e.kind).accounts 1) (stored l e.a (changeOf l.terms (accountAt l e.a) e)) (postSeveral l e) (stored-twin (changeOf l.terms (accountAt l e.a) e)) several-twin
+      kind-twin = choose (eqb (kindOf e.kind).accounts 1) (stored l e.a (changeOf l.terms (accountAt l e.a) e)) (postSeveral l e) (stored-twin (changeOf l.terms (accountAt l e.a) e)) several-twin
 
       entry-twin : (OnlyNew e.kind → ⊥) → postEntry (told new l) e ≡ twin (postEntry l e)
       unfolding postEntry
@@ -215,7 +215,7 @@ module _ (l : Ledger) (new : Bool) where
 pub alike-otherwise : AlikeOtherwise
 unfolding posted
 alike-otherwise l new b d c =
-    choose l new (eqb (length b) 32) (postEntry l (entry_of b)) (refused l 1) (entry-twin l new (entry_of b) d c) (refused-twin l new 1)
+    choose l new (eqb (length b) 32) (postEntry l (entryOf b)) (refused l 1) (entry-twin l new (entryOf b) d c) (refused-twin l new 1)
 
 -- ---- the number of a month's closing
 
@@ -234,12 +234,12 @@ module _ (l : Ledger) (e : Entry) (nine : e.kind ≡ 9) where
   kind-number : (postKind l e).answer.number ≡ cond (eqb number 0) 0 number
   unfolding postKind postSeveral lookup
   kind-number =
-      rw (none_named l e nine, ne_eqb e.kind 1 (λ z. omega (arith, z, nine)), ne_eqb e.kind 4 (λ z. omega (arith, z, nine)), ne_eqb e.kind 8 (λ z. omega (arith, z, nine)), eq-eqb e.kind 9 nine)
+      rw (none-named l e nine, ne_eqb e.kind 1 (λ z. omega (arith, z, nine)), ne_eqb e.kind 4 (λ z. omega (arith, z, nine)), ne_eqb e.kind 8 (λ z. omega (arith, z, nine)), eq-eqb e.kind 9 nine)
       closing-number
 
-module _ (l : Ledger) (new : Bool) (b : List ℕ) (nine : (entry_of b).kind ≡ 9) where
+module _ (l : Ledger) (new : Bool) (b : List ℕ) (nine : (entryOf b).kind ≡ 9) where
   abbrev e : Entry
-  e = entry_of b
+  e = entryOf b
 
   kind-alike : (postKind (told new l) e).answer.number ≡ (postKind l e).answer.number
   kind-alike = kind-number (told new l) e nine ∙ ap (λ (cs : List Check). cond (eqb (verdict cs) 0) 0 (verdict cs)) (checks-twin l new e) ∙ sym (kind-number l e nine)
@@ -263,14 +263,14 @@ module _ (l : Ledger) (new : Bool) (b : List ℕ) (nine : (entry_of b).kind ≡ 
       go false = refused-number (told new l) 1 ∙ sym (refused-number l 1)
 
 pub accepts-alike : AcceptsAlike
-accepts-alike l new b c = go (eqb (entry_of b).kind 9) refl
+accepts-alike l new b c = go (eqb (entryOf b).kind 9) refl
   where
-    go : (t : Bool) → eqb (entry_of b).kind 9 ≡ t → (posted (told new l) b).answer.number ≡ (posted l b).answer.number
-    go true z = month-alike l new b (eqb-true (entry_of b).kind 9 z)
-    go false z = ap (λ (p : Posted). p.answer.number) (alike-otherwise l new b (eqb-false (entry_of b).kind 9 z) c)
+    go : (t : Bool) → eqb (entryOf b).kind 9 ≡ t → (posted (told new l) b).answer.number ≡ (posted l b).answer.number
+    go true z = month-alike l new b (eqb-true (entryOf b).kind 9 z)
+    go false z = ap (λ (p : Posted). p.answer.number) (alike-otherwise l new b (eqb-false (entryOf b).kind 9 z) c)
 
 pub reports-alike : ReportsAlike
 unfolding told accountAt
 reports-alike l new b i z nine =
-    let y : (posted (told new l) b).answer.number ≡ 0 = accepts-alike l new b (nine-is-old (entry_of b).kind nine) ∙ z in
-    rw (month-reported l b i z nine, month-reported (told new l) b i y nine) (same-report l.is_new new l.terms (entry_of b) (accountAt l i))
+    let y : (posted (told new l) b).answer.number ≡ 0 = accepts-alike l new b (nine-is-old (entryOf b).kind nine) ∙ z in
+    rw (month-reported l b i z nine, month-reported (told new l) b i y nine) (same-report l.is_new new l.terms (entryOf b) (accountAt l i))

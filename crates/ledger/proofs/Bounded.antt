@@ -11,10 +11,10 @@ use Rattle.tariff.specs.Dates.{real}
 use Rattle.tariff.specs.Holidays.{holidaysInRange}
 use Rattle.tariff.specs.Terms.{termsInRange}
 use Rattle.ledger.specs.Structs.{Account, Ledger, Totals}
-use Rattle.tariff.proofs.Bools.{and_left, and_right, parts}
+use Rattle.tariff.proofs.Bools.{and-left, and-right, parts}
 use Rattle.tariff.proofs.Laws.{within-size, within-mills-size}
 use Rattle.ledger.specs.State.{nobody, accountAt}
-use Rattle.ledger.specs.Ranges.{totalsInRange, stepInRange, accountInRange, everyAccount, in_range}
+use Rattle.ledger.specs.Ranges.{totalsInRange, stepInRange, accountInRange, everyAccount, inRange}
 use Rattle.ledger.proofs.Lists.{every-at}
 
 pub record TotalsBounded (m : Totals) : Type 0 where
@@ -70,15 +70,15 @@ pub record Stepped (a : Account) : Type 0 where
   pub k : (1 ≤ a.step.k) × (a.step.k ≤ 100)
   pub pending : (1 ≤ a.step.pending) × (a.step.pending ≤ 100)
 
-or_else : (a b : Bool) → a || b ≡ true → a ≡ false → b ≡ true
-or_else true b h e = absurd (true≢false e)
-or_else false b h e = h
+or-else : (a b : Bool) → a || b ≡ true → a ≡ false → b ≡ true
+or-else true b h e = absurd (true≢false e)
+or-else false b h e = h
 
 pub stepped : (a : Account) → accountInRange a ≡ true → a.opened ≡ true → Stepped a
 unfolding accountInRange stepInRange
 stepped a h o =
     let steps : leb 1 a.step.k && leb a.step.k 100 && (leb 1 a.step.pending && leb a.step.pending 100) ≡ true =
-    or_else (not a.opened) (leb 1 a.step.k && leb a.step.k 100 && (leb 1 a.step.pending && leb a.step.pending 100)) (search parts depth 9) (rw o) in
+    or-else (not a.opened) (leb 1 a.step.k && leb a.step.k 100 && (leb 1 a.step.pending && leb a.step.pending 100)) (search parts depth 9) (rw o) in
     record {
       k = (leb-true 1 a.step.k (search parts), leb-true a.step.k 100 (search parts));
       pending = (leb-true 1 a.step.pending (search parts), leb-true a.step.pending 100 (search parts));
@@ -91,22 +91,22 @@ pub record Ranged (l : Ledger) : Type 0 where
   pub held : holidaysInRange l.holidays ≡ true
   pub accounts : everyAccount accountInRange l.accounts ≡ true
 
-pub ranged-parts : (l : Ledger) → in_range l ≡ true → Ranged l
-unfolding in_range
+pub ranged-parts : (l : Ledger) → inRange l ≡ true → Ranged l
+unfolding inRange
 ranged-parts l h = record { dated = search parts; held = search parts; accounts = search parts }
 
-pub ranged-whole : (l : Ledger) → Ranged l → in_range l ≡ true
-unfolding in_range
+pub ranged-whole : (l : Ledger) → Ranged l → inRange l ≡ true
+unfolding inRange
 ranged-whole l r = rw (r.dated, r.held) r.accounts
 
 -- every account of a ledger in range is in range
-pub account-ranged : (l : Ledger) (i : ℕ) → length l.accounts ≡ 16 → i < 16 → in_range l ≡ true → accountInRange (accountAt l i) ≡ true
+pub account-ranged : (l : Ledger) (i : ℕ) → length l.accounts ≡ 16 → i < 16 → inRange l ≡ true → accountInRange (accountAt l i) ≡ true
 unfolding accountAt
 account-ranged l i n h e = every-at accountInRange l.accounts i nobody (omega arith) (ranged-parts l e).accounts
 
 -- once begun, terms and date are in range
-pub begun-ranged : (l : Ledger) → in_range l ≡ true → l.begun ≡ true → (real l.date ≡ true) × (termsInRange l.terms ≡ true)
+pub begun-ranged : (l : Ledger) → inRange l ≡ true → l.begun ≡ true → (real l.date ≡ true) × (termsInRange l.terms ≡ true)
 begun-ranged l e o =
     let both : real l.date && termsInRange l.terms ≡ true =
-    or_else (not l.begun) (real l.date && termsInRange l.terms) (ranged-parts l e).dated (rw o) in
-    (and_left (real l.date) (termsInRange l.terms) both, and_right (real l.date) (termsInRange l.terms) both)
+    or-else (not l.begun) (real l.date && termsInRange l.terms) (ranged-parts l e).dated (rw o) in
+    (and-left (real l.date) (termsInRange l.terms) both, and-right (real l.date) (termsInRange l.terms) both)

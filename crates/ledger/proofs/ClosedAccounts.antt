@@ -68,9 +68,9 @@ unfolding quiet
 quiet-mask = refl
 
 module _ (new : Bool) (t : Terms) (e : Entry) (a : Account) where
-  of_none : Accounted a (leftAlone a)
+  of-none : Accounted a (leftAlone a)
   unfolding leftAlone quiet openBank
-  of_none =
+  of-none =
       record {
         bank = rw (inward-zero quiet.cash refl, outward-zero quiet.cash refl) (sym (+ℤ_idr (openBank a)));
         owed = sym (+ℤ_idr (openOwed a));
@@ -127,8 +127,8 @@ module _ (new : Bool) (t : Terms) (e : Entry) (a : Account) where
   unfolding closingOf
   accounted =
       either (Accounted a) a.opened _ _
-      (λ o. each (Accounted a) e.kind (leftAlone a) ((λ _. of-day o) then (λ _. of-month o) then done) of_none)
-      (λ _. of_none)
+      (λ o. each (Accounted a) e.kind (leftAlone a) ((λ _. of-day o) then (λ _. of-month o) then done) of-none)
+      (λ _. of-none)
 
 -- ---- an account of the closed ledger, and what was reported of it
 

@@ -4,7 +4,7 @@ use mathlib.Core.Path.{◌∙◌, ◌≡◌, ap, refl, sym}
 use mathlib.Core.Bool.{Bool, ◌&&◌, false, true}
 use Prim.Native.Nat.{ℕ, ◌+◌, ◌<◌}
 use lib.ListN.{drop, get_or-replicate, length, replicate, set}
-use Rattle.ledger.proofs.Lists.{every-next, every-pass, filled, filled-kept, filled_next, withAccounts}
+use Rattle.ledger.proofs.Lists.{every-next, every-pass, filled, filled-kept, filled-next, withAccounts}
 use Rattle.ledger.specs.Answers.{quiet}
 use Rattle.ledger.specs.Closing.{afterClosing, closingOf, leftAlone, ready, reportOf, staysInRange}
 use Rattle.ledger.specs.Ranges.{accountInRange, everyAccount}
@@ -35,16 +35,16 @@ module _ (l : Ledger) (e : Entry) (i : ℕ) (n : length l.accounts ≡ 16) (h : 
   -- an open account is closed
   pub open-stored : (next r : Ledger) (one : Closed) → r ≡ withAccounts next (set next.accounts i one.account) → next ≡ accountsTo l e i → one ≡ closingOf l.is_new l.terms e (accountAt l i) → r ≡ accountsTo l e (i + 1)
   unfolding accountAt afterClosing
-  open-stored next r one q v p = cc (filled_next (afterClosing l.is_new l.terms e) l.accounts l.accounts i nobody refl (omega arith))
+  open-stored next r one q v p = cc (filled-next (afterClosing l.is_new l.terms e) l.accounts l.accounts i nobody refl (omega arith))
 
   pub open-reported : (reports r : List Report) (one : Closed) → r ≡ set reports i one.report → reports ≡ reportsTo l e i → one ≡ closingOf l.is_new l.terms e (accountAt l i) → r ≡ reportsTo l e (i + 1)
   unfolding accountAt reportOf
-  open-reported reports r one q v p = cc (filled_next (reportOf l.is_new l.terms e) l.accounts (replicate 16 quiet) i nobody (omega arith) (omega arith))
+  open-reported reports r one q v p = cc (filled-next (reportOf l.is_new l.terms e) l.accounts (replicate 16 quiet) i nobody (omega arith) (omega arith))
 
-  pub open_stays : (fits day end r : Bool) (one : Closed) → r ≡ fits && (day && end) → Agrees l i (staysInRange l.is_new l.terms e) fits → day ≡ accountInRange one.day → end ≡ accountInRange one.account
+  pub open-stays : (fits day end r : Bool) (one : Closed) → r ≡ fits && (day && end) → Agrees l i (staysInRange l.is_new l.terms e) fits → day ≡ accountInRange one.day → end ≡ accountInRange one.account
       → one ≡ closingOf l.is_new l.terms e (accountAt l i) → Agrees l (i + 1) (staysInRange l.is_new l.terms e) r
   unfolding accountAt staysInRange
-  open_stays fits day end r one q v x y p = cc (every-next (staysInRange l.is_new l.terms e) l.accounts i nobody fits (omega arith))
+  open-stays fits day end r one q v x y p = cc (every-next (staysInRange l.is_new l.terms e) l.accounts i nobody fits (omega arith))
 
   pub open-complete : (complete had ends reads r : Bool) → Agrees l i (Ready l e) complete → had ≡ ready ends reads (accountAt l i) → ends ≡ lastOfMonth e.date → reads ≡ onMeasurementDay (heldIn l) e.date → r ≡ complete && had
       → Agrees l (i + 1) (Ready l e) r

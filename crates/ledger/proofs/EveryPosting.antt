@@ -8,8 +8,8 @@ use lib.ListN.{length}
 use borrow.Author.Tests.{eqb-true}
 use Rattle.tariff.proofs.Bools.{either}
 use Rattle.ledger.specs.Checks.{verdict}
-use Rattle.ledger.specs.Kinds.{kind_of}
-use Rattle.ledger.specs.Entries.{entry_of}
+use Rattle.ledger.specs.Kinds.{kindOf}
+use Rattle.ledger.specs.Entries.{entryOf}
 use Rattle.ledger.specs.State.{accountAt}
 use Rattle.ledger.specs.Answers.{refused, settle}
 use Rattle.ledger.specs.Terms.{postTerms}
@@ -25,7 +25,7 @@ use Rattle.ledger.specs.Holiday.{postHoliday}
 use Rattle.ledger.specs.Posting.{admission, postSeveral, changeOf, stored, postKind, postEntry, posted}
 use Rattle.ledger.specs.Structs.{Account, Change, Entry, Ledger}
 use Rattle.ledger.proofs.RightEntries.{a-fits}
-use Rattle.ledger.proofs.Admitted.{is_right}
+use Rattle.ledger.proofs.Admitted.{is-right}
 use Rattle.ledger.proofs.KindCases.{done, ◌then◌, each}
 use Rattle.ledger.proofs.OneStep.{Sound, Step, step-refused, step-settle}
 use Rattle.ledger.proofs.StepKinds.{takes-terms, takes-enrol, takes-deliver, takes-transfer, takes-trade, takes-measure, takes-usage, takes-confiscated, takes-holiday}
@@ -33,7 +33,7 @@ use Rattle.ledger.proofs.StepClosing.{step-closed}
 
 module _ (l : Ledger) (b : List ℕ) (s : Sound l) where
   abbrev e : Entry
-  e = entry_of b
+  e = entryOf b
 
   step-closing : admission l e ≡ 0 → 8 ≤ e.kind → e.kind ≤ 9 → Step l b (postClosing l e)
   unfolding postClosing
@@ -56,7 +56,7 @@ module _ (l : Ledger) (b : List ℕ) (s : Sound l) where
       (step-refused l b 2 refl)
 
   abbrev old : Account
-  old = accountAt l (entry_of b).a
+  old = accountAt l (entryOf b).a
 
   -- and for each kind of one
   step-one : admission l e ≡ 0 → e.a < 16 → Step l b (stored l e.a (changeOf l.terms old e))
@@ -75,8 +75,8 @@ module _ (l : Ledger) (b : List ℕ) (s : Sound l) where
   step-kind : admission l e ≡ 0 → Step l b (postKind l e)
   unfolding postKind
   step-kind h =
-      either (Step l b) (eqb (kind_of e.kind).accounts 1) (stored l e.a (changeOf l.terms old e)) (postSeveral l e)
-      (λ t. let one = eqb-true (kind_of e.kind).accounts 1 t in step-one h (a-fits e (is_right l e h) (omega arith)))
+      either (Step l b) (eqb (kindOf e.kind).accounts 1) (stored l e.a (changeOf l.terms old e)) (postSeveral l e)
+      (λ t. let one = eqb-true (kindOf e.kind).accounts 1 t in step-one h (a-fits e (is-right l e h) (omega arith)))
       (λ _. step-several h)
 
   -- any bytes at all

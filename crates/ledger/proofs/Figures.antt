@@ -6,13 +6,13 @@ use mathlib.Core.List.{List, [], ◌∷◌}
 use lib.IntN.{pos, ◌+ℤ◌}
 use native.Mathlib.Omega.{arith}
 use lib.ListN.{get_or, length, get_or-eq_default}
-use Rattle.ledger.specs.Ranges.{in_range}
+use Rattle.ledger.specs.Ranges.{inRange}
 use Rattle.ledger.specs.State.{nobody, noTotals, noMonth, noToday, accountAt}
 use Rattle.ledger.specs.Panel.{openBank, bankOf, openBanks, panelOf}
 use Rattle.ledger.specs.Structs.{Account, Ledger}
 use Rattle.ledger.proofs.OneStep.{Sound}
 
-pub panel-number : (l : Ledger) → (panelOf l).number ≡ cond (in_range l) 0 20
+pub panel-number : (l : Ledger) → (panelOf l).number ≡ cond (inRange l) 0 20
 unfolding panelOf
 panel-number l = refl
 
@@ -33,14 +33,14 @@ unfolding bankOf accountAt
 bank-at l i = refl
 
 -- whatever would stand past the end
-same_place : (xs : List Account) (i : ℕ) (d e : Account) → i < length xs → get_or xs i d ≡ get_or xs i e
-same_place [] i d e h = absurd (omega arith)
-same_place (x ∷ xs) zero d e h = refl
-same_place (x ∷ xs) (suc i) d e h = same_place xs i d e (omega arith)
+same-place : (xs : List Account) (i : ℕ) (d e : Account) → i < length xs → get_or xs i d ≡ get_or xs i e
+same-place [] i d e h = absurd (omega arith)
+same-place (x ∷ xs) zero d e h = refl
+same-place (x ∷ xs) (suc i) d e h = same-place xs i d e (omega arith)
 
 pub account-there : (l : Ledger) (i : ℕ) (d : Account) → i < length l.accounts → get_or l.accounts i d ≡ accountAt l i
 unfolding accountAt
-account-there l i d h = same_place l.accounts i d nobody h
+account-there l i d h = same-place l.accounts i d nobody h
 
 -- beyond the last account nobody is open
 pub none-beyond : (l : Ledger) (i : ℕ) → length l.accounts ≤ i → (accountAt l i).opened ≡ false

@@ -7,7 +7,7 @@ use lib.ListN.{get_or, replicate}
 use Rattle.tariff.proofs.BusinessDays.{none-ranged}
 use Rattle.tariff.proofs.Laws.{within-zero, within-mills-zero}
 use Rattle.ledger.specs.State.{noMonth, noToday, noTotals, nobody, fresh, accountAt}
-use Rattle.ledger.specs.Ranges.{totalsInRange, stepInRange, accountInRange, everyAccount, in_range}
+use Rattle.ledger.specs.Ranges.{totalsInRange, stepInRange, accountInRange, everyAccount, inRange}
 use Rattle.ledger.specs.Panel.{openBank, bankOf}
 use Rattle.ledger.proofs.ClosedAccounts.{openOwed, openDays}
 use Rattle.ledger.proofs.OneStep.{Sound}
@@ -31,7 +31,7 @@ nobody-ranged =
     )
 
 pub fresh-sound : (new : Bool) → Sound (fresh new)
-unfolding in_range fresh everyAccount
+unfolding inRange fresh everyAccount
 fresh-sound new = record { sized = refl; ranged = rw (none-ranged, nobody-ranged) }
 
 pub fresh-not-begun : (new : Bool) → (fresh new).begun ≡ false

@@ -7,7 +7,7 @@ use native.Mathlib.Numerals.{add-one}
 use native.Mathlib.Omega.{arith}
 use lib.ListN.{length, drop, take, get_or, set, drop_of_length-le}
 use lib.Seq.{drop-cons, take_all}
-use Rattle.tariff.proofs.Bools.{and_left, and_right}
+use Rattle.tariff.proofs.Bools.{and-left, and-right}
 pub use Rattle.tariff.proofs.Arrays.{length-mapped}
 use Rattle.ledger.specs.Ranges.{everyAccount}
 use Rattle.ledger.specs.Structs.{Account, Ledger}
@@ -30,14 +30,14 @@ module _ (p : Account → Bool) where
   pub every-at : (xs : List Account) (i : ℕ) (d : Account) → i < length xs → everyAccount p xs ≡ true → p (get_or xs i d) ≡ true
   unfolding everyAccount
   every-at [] i d h e = absurd (omega arith)
-  every-at (x ∷ xs) zero d h e = and_left (p x) (everyAccount p xs) e
-  every-at (x ∷ xs) (suc i) d h e = every-at xs i d (omega arith) (and_right (p x) (everyAccount p xs) e)
+  every-at (x ∷ xs) zero d h e = and-left (p x) (everyAccount p xs) e
+  every-at (x ∷ xs) (suc i) d h e = every-at xs i d (omega arith) (and-right (p x) (everyAccount p xs) e)
 
-  pub every_set : (xs : List Account) (i : ℕ) (v : Account) → everyAccount p xs ≡ true → p v ≡ true → everyAccount p (set xs i v) ≡ true
+  pub every-set : (xs : List Account) (i : ℕ) (v : Account) → everyAccount p xs ≡ true → p v ≡ true → everyAccount p (set xs i v) ≡ true
   unfolding everyAccount
-  every_set [] i v e h = e
-  every_set (x ∷ xs) zero v e h = rw h (and_right (p x) (everyAccount p xs) e)
-  every_set (x ∷ xs) (suc i) v e h = rw (and_left (p x) (everyAccount p xs) e) (every_set xs i v (and_right (p x) (everyAccount p xs) e) h)
+  every-set [] i v e h = e
+  every-set (x ∷ xs) zero v e h = rw h (and-right (p x) (everyAccount p xs) e)
+  every-set (x ∷ xs) (suc i) v e h = rw (and-left (p x) (everyAccount p xs) e) (every-set xs i v (and-right (p x) (everyAccount p xs) e) h)
 
 -- the ledger with other accounts, and nothing else changed
 abbrev pub withAccounts : Ledger → List Account → Ledger
@@ -55,8 +55,8 @@ module _ {A B : Type 0} (f : A → B) where
   filled-suc (x ∷ xs) (y ∷ ys) zero d e h = refl
   filled-suc (x ∷ xs) (y ∷ ys) (suc i) d e h = ap (λ t. f x ∷ t) (filled-suc xs ys i d (omega arith) (omega arith))
 
-  pub filled_next : (xs : List A) (ys : List B) (i : ℕ) (d : A) → length ys ≡ length xs → i < length xs → set (filled xs ys i) i (f (get_or xs i d)) ≡ filled xs ys (i + 1)
-  filled_next xs ys i d e h = rw add-one (filled-suc xs ys i d e h)
+  pub filled-next : (xs : List A) (ys : List B) (i : ℕ) (d : A) → length ys ≡ length xs → i < length xs → set (filled xs ys i) i (f (get_or xs i d)) ≡ filled xs ys (i + 1)
+  filled-next xs ys i d e h = rw add-one (filled-suc xs ys i d e h)
 
   kept-suc : (xs : List A) (ys : List B) (i : ℕ) (d : A) (e : B) → length ys ≡ length xs → i < length xs → f (get_or xs i d) ≡ get_or ys i e → filled xs ys i ≡ filled xs ys (suc i)
   kept-suc [] ys i d e n h q = absurd (omega arith)

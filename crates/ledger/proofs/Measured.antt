@@ -18,13 +18,13 @@ use Rattle.ledger.specs.Checks.{Check, verdict}
 use Rattle.ledger.specs.Closing.{ready, staysInRange}
 use Rattle.ledger.specs.Closings.{closed, closingChecks, holidaysAfter, postClosing}
 use Rattle.ledger.specs.Days.{wrongDay}
-use Rattle.ledger.specs.Entries.{dayNamed, entry_of}
+use Rattle.ledger.specs.Entries.{dayNamed, entryOf}
 use Rattle.ledger.specs.Forms.{entryChecks}
 use Rattle.ledger.specs.Holiday.{holding, holidayChecks, postHoliday}
-use Rattle.ledger.specs.Kinds.{kind_of, lookup}
+use Rattle.ledger.specs.Kinds.{kindOf, lookup}
 use Rattle.ledger.specs.Measuring.{DropsPassed, EveryMonthMeasured, HolidayAccepted, HoldsIt, MovesMeasuring, SameToday, StaysInRange, StoredAnew}
 use Rattle.ledger.specs.Posting.{admission, postEntry, postKind, postSeveral, posted, standingChecks, stored}
-use Rattle.ledger.specs.Ranges.{everyAccount, in_range}
+use Rattle.ledger.specs.Ranges.{everyAccount, inRange}
 use Rattle.ledger.specs.Running.{run}
 use Rattle.ledger.specs.State.{accountAt, fresh, heldIn, withHolidays}
 use Rattle.ledger.specs.Structs.{Date, Entry, Ledger, Posted, Holidays}
@@ -33,7 +33,7 @@ use Rattle.ledger.proofs.Admitted.{is-begun, is-ranged, is-today}
 use Rattle.ledger.proofs.Bounded.{begun-ranged, ranged-parts}
 use Rattle.ledger.proofs.EveryPosting.{step}
 use Rattle.ledger.proofs.FreshLedger.{fresh-sound}
-use Rattle.ledger.proofs.NamedDays.{held_next, holding-ranged, is_later, is-real-day, leaves-one}
+use Rattle.ledger.proofs.NamedDays.{held-next, holding-ranged, is-later, is-real-day, leaves-one}
 use Rattle.ledger.proofs.OldLedgers.{month-closed, places-stay}
 use Rattle.ledger.proofs.OneStep.{Sound}
 use Rattle.ledger.proofs.Verdicts.{verdict-tail}
@@ -47,12 +47,12 @@ sound-next l b s = go (eqb (posted l b).answer.number 0) refl
     go true e = ((step l b s).taken e).sound
     go false e = rw ((step l b s).kept e) s
 
-run_sound : (l : Ledger) (bs : List (List ℕ)) → Sound l → Sound (run l bs)
-run_sound l [] s = s
-run_sound l (b ∷ bs) s = run_sound (posted l b).ledger bs (sound-next l b s)
+run-sound : (l : Ledger) (bs : List (List ℕ)) → Sound l → Sound (run l bs)
+run-sound l [] s = s
+run-sound l (b ∷ bs) s = run-sound (posted l b).ledger bs (sound-next l b s)
 
 pub stays-in-range : StaysInRange
-stays-in-range new bs = (run_sound (fresh new) bs (fresh-sound new)).ranged
+stays-in-range new bs = (run-sound (fresh new) bs (fresh-sound new)).ranged
 
 pub every-month-measured : EveryMonthMeasured
 unfolding heldIn
@@ -63,14 +63,14 @@ every-month-measured l r = every-month l.holidays (ranged-parts l r).held
 pub drops-passed : DropsPassed
 unfolding heldIn closed holidaysAfter
 drops-passed l b nine z x =
-    rw (month-closed l b nine z, eq-eqb (entry_of b).kind 9 nine, held-stored (keptFrom (dayAfter (entry_of b).date) (heldDates l.holidays)))
-    (kept-members (dayAfter (entry_of b).date) (heldDates l.holidays) x)
+    rw (month-closed l b nine z, eq-eqb (entryOf b).kind 9 nine, held-stored (keptFrom (dayAfter (entryOf b).date) (heldDates l.holidays)))
+    (kept-members (dayAfter (entryOf b).date) (heldDates l.holidays) x)
 
 -- ---- an accepted HOLIDAY
 
 module _ (l : Ledger) (e : Entry) where
   several-holiday : e.kind ≡ 11 → postKind l e ≡ postHoliday l e
-  unfolding postKind postSeveral kind_of lookup
+  unfolding postKind postSeveral kindOf lookup
   several-holiday is =
       rw (ne_eqb e.kind 1 (λ z. omega (arith, z, is)), ne_eqb e.kind 2 (λ z. omega (arith, z, is)), ne_eqb e.kind 3 (λ z. omega (arith, z, is)), ne_eqb e.kind 4 (λ z. omega (arith, z, is)), ne_eqb e.kind 5 (λ z. omega (arith, z, is)), ne_eqb e.kind 6 (λ z. omega (arith, z, is)), ne_eqb e.kind 7 (λ z. omega (arith, z, is)), ne_eqb e.kind 8 (λ z. omega (arith, z, is)), ne_eqb e.kind 9 (λ z. omega (arith, z, is)), ne_eqb e.kind 10 (λ z. omega (arith, z, is)), eq-eqb e.kind 11 is)
 
@@ -85,28 +85,28 @@ module _ (l : Ledger) (e : Entry) (is : e.kind ≡ 11) where
   unfolding postHoliday settle plain
   of-rule a z = record { admitted = a; free = z; next = rw (eq-eqb (verdict (holidayChecks l (dayNamed e))) 0 z) }
 
-  of_entry : (t : Bool) → eqb (admission l e) 0 ≡ t → (cond t (postKind l e) (refused l (admission l e))).answer.number ≡ 0
+  of-entry : (t : Bool) → eqb (admission l e) 0 ≡ t → (cond t (postKind l e) (refused l (admission l e))).answer.number ≡ 0
       → Accepted l e (cond t (postKind l e) (refused l (admission l e)))
   unfolding refused plain
-  of_entry true h z = rw (several-holiday l e is) (of-rule (eqb-true (admission l e) 0 h) (rw (several-holiday l e is) at z))
-  of_entry false h z = absurd (eqb-false (admission l e) 0 h z)
+  of-entry true h z = rw (several-holiday l e is) (of-rule (eqb-true (admission l e) 0 h) (rw (several-holiday l e is) at z))
+  of-entry false h z = absurd (eqb-false (admission l e) 0 h z)
 
   of-bytes : (t : Bool) → (cond t (postEntry l e) (refused l 1)).answer.number ≡ 0 → Accepted l e (cond t (postEntry l e) (refused l 1))
   unfolding postEntry refused plain
-  of-bytes true z = of_entry (eqb (admission l e) 0) refl z
+  of-bytes true z = of-entry (eqb (admission l e) 0) refl z
   of-bytes false z = absurd (omega arith)
 
-accepted : (l : Ledger) (b : List ℕ) → HolidayAccepted l b → Accepted l (entry_of b) (posted l b)
+accepted : (l : Ledger) (b : List ℕ) → HolidayAccepted l b → Accepted l (entryOf b) (posted l b)
 unfolding posted
-accepted l b n = of-bytes l (entry_of b) n.kind (eqb (length b) 32) n.accepted
+accepted l b n = of-bytes l (entryOf b) n.kind (eqb (length b) 32) n.accepted
 
 pub holds-it : HoldsIt
-holds-it l b n = ap heldIn (accepted l b n).next ∙ held_next l (dayNamed (entry_of b))
+holds-it l b n = ap heldIn (accepted l b n).next ∙ held-next l (dayNamed (entryOf b))
 
 pub moves-measuring : MovesMeasuring
 moves-measuring l b n e =
     let a = accepted l b n in
-    let d = dayNamed (entry_of b) in
+    let d = dayNamed (entryOf b) in
     rw (holds-it l b n) (moves-on (heldIn l) d (is-real-day l d a.free) e (leaves-one l d a.free))
 
 -- ---- the places past the count
@@ -119,7 +119,7 @@ unfolding fresh heldIn
 fresh-stored new = ap storedDates (sym (held-stored []))
 
 holding-stored : (l : Ledger) (d : Date) → Stored (holding l d)
-holding-stored l d = (unfold holding withHolidays in ap storedDates (sym (held_next l d)))
+holding-stored l d = (unfold holding withHolidays in ap storedDates (sym (held-next l d)))
 
 closed-stored : (l : Ledger) (e : Entry) → e.kind ≡ 9 → Stored (closed l e).ledger
 unfolding heldIn closed holidaysAfter
@@ -129,19 +129,19 @@ stored-next : (l : Ledger) (b : List ℕ) → Sound l → Stored l → Stored (p
 unfolding heldIn
 stored-next l b s h = by-number (eqb (posted l b).answer.number 0) refl
   where
-    by-kind : (posted l b).answer.number ≡ 0 → (t u : Bool) → eqb (entry_of b).kind 11 ≡ t → eqb (entry_of b).kind 9 ≡ u → Stored (posted l b).ledger
+    by-kind : (posted l b).answer.number ≡ 0 → (t u : Bool) → eqb (entryOf b).kind 11 ≡ t → eqb (entryOf b).kind 9 ≡ u → Stored (posted l b).ledger
     by-kind z true u k n =
-        let a = accepted l b (record { kind = eqb-true (entry_of b).kind 11 k; accepted = z }) in
-        rw a.next (holding-stored l (dayNamed (entry_of b)))
+        let a = accepted l b (record { kind = eqb-true (entryOf b).kind 11 k; accepted = z }) in
+        rw a.next (holding-stored l (dayNamed (entryOf b)))
     by-kind z false true k n =
-        let nine = eqb-true (entry_of b).kind 9 n in
-        rw (month-closed l b nine z) (closed-stored l (entry_of b) nine)
+        let nine = eqb-true (entryOf b).kind 9 n in
+        rw (month-closed l b nine z) (closed-stored l (entryOf b) nine)
     by-kind z false false k n =
-        let same = places-stay l b (eqb-false (entry_of b).kind 11 k) (eqb-false (entry_of b).kind 9 n) in
+        let same = places-stay l b (eqb-false (entryOf b).kind 11 k) (eqb-false (entryOf b).kind 9 n) in
         same ∙ h ∙ ap (λ (x : Holidays). storedDates (heldDates x)) (sym same)
 
     by-number : (t : Bool) → eqb (posted l b).answer.number 0 ≡ t → Stored (posted l b).ledger
-    by-number true e = by-kind (eqb-true (posted l b).answer.number 0 e) (eqb (entry_of b).kind 11) (eqb (entry_of b).kind 9) refl refl
+    by-number true e = by-kind (eqb-true (posted l b).answer.number 0 e) (eqb (entryOf b).kind 11) (eqb (entryOf b).kind 9) refl refl
     by-number false e = rw ((step l b s).kept e) h
 
 run_stored : (l : Ledger) (bs : List (List ℕ)) → Sound l → Stored l → Stored (run l bs)
@@ -165,19 +165,19 @@ unfolding verdict
 day-by-day xs b₂₁ true w v f = verdict-tail xs _ _ refl
 day-by-day xs b₂₁ false w v f = rw (f refl)
 
-module _ (l : Ledger) (d : Date) (r : in_range l ≡ true) (o : verdict (holidayChecks l d) ≡ 0) (begun : l.begun ≡ true) where
+module _ (l : Ledger) (d : Date) (r : inRange l ≡ true) (o : verdict (holidayChecks l d) ≡ 0) (begun : l.begun ≡ true) where
   abbrev next : Ledger
   next = holding l d
 
-  reads_same : (t : Date) → sameDate t l.date ≡ true → onMeasurementDay (heldIn (holding l d)) t ≡ onMeasurementDay (heldIn l) t
-  reads_same t s =
-      rw (same-date-is t l.date s, held_next l d)
-      (today-stays (heldIn l) d l.date (begun-ranged l r begun).0 (is_later l d o))
+  reads-same : (t : Date) → sameDate t l.date ≡ true → onMeasurementDay (heldIn (holding l d)) t ≡ onMeasurementDay (heldIn l) t
+  reads-same t s =
+      rw (same-date-is t l.date s, held-next l d)
+      (today-stays (heldIn l) d l.date (begun-ranged l r begun).0 (is-later l d o))
 
   module _ (e : Entry) (no-terms : e.kind ≡ 1 → ⊥) where
     same-wrong : sameDate e.date l.date ≡ true → wrongDay true (heldIn (holding l d)) e ≡ wrongDay l.touched (heldIn l) e
     unfolding wrongDay lookup
-    same-wrong s = rw (ne_eqb e.kind 1 no-terms, reads_same e.date s)
+    same-wrong s = rw (ne_eqb e.kind 1 no-terms, reads-same e.date s)
 
     same-admission : admission (holding l d) e ≡ admission l e
     unfolding admission standingChecks
@@ -194,7 +194,7 @@ module _ (l : Ledger) (d : Date) (r : in_range l ≡ true) (o : verdict (holiday
       unfolding closingChecks holding withHolidays
       same-checks =
           ap (λ (reads : Bool). (not (everyAccount (ready (lastOfMonth e.date) reads) l.accounts), 27) ∷ (not (everyAccount (staysInRange l.is_new l.terms e) l.accounts), 29) ∷ [])
-          (reads_same e.date (is-today l e h begun))
+          (reads-same e.date (is-today l e h begun))
 
       same-closing : (postClosing (holding l d) e).answer ≡ (postClosing l e).answer
       unfolding postClosing
@@ -214,25 +214,25 @@ module _ (l : Ledger) (d : Date) (r : in_range l ≡ true) (o : verdict (holiday
           (either-answer (eqb e.kind 4) _ _ _ _ (λ _. same-transfer)
           (λ _. either-answer (eqb e.kind 8) _ _ _ _ (λ _. same-closing) (λ _. either-answer (eqb e.kind 9) (postClosing (holding l d) e) (refused (holding l d) 2) (postClosing l e) (refused l 2) (λ _. same-closing) (λ _. unfold refused in refl))))
 
-      same_kind : (e.kind ≡ 11 → ⊥) → (postKind (holding l d) e).answer ≡ (postKind l e).answer
+      same-kind : (e.kind ≡ 11 → ⊥) → (postKind (holding l d) e).answer ≡ (postKind l e).answer
       unfolding postKind
-      same_kind no-holiday =
-          either-answer (eqb (kind_of e.kind).accounts 1) _ _ _ _ (λ _. unfold stored settle accountAt holding withHolidays in refl) (λ _. same-several no-holiday)
+      same-kind no-holiday =
+          either-answer (eqb (kindOf e.kind).accounts 1) _ _ _ _ (λ _. unfold stored settle accountAt holding withHolidays in refl) (λ _. same-several no-holiday)
 
     same-entry : (e.kind ≡ 11 → ⊥) → (postEntry (holding l d) e).answer ≡ (postEntry l e).answer
     unfolding postEntry
     same-entry no-holiday =
         ap (λ (n : ℕ). (cond (eqb n 0) (postKind (holding l d) e) (refused (holding l d) n)).answer) same-admission
         ∙ either-answer (eqb (admission l e) 0) (postKind (holding l d) e) (refused (holding l d) (admission l e)) (postKind l e) (refused l (admission l e))
-        (λ z. same_kind (eqb-true (admission l e) 0 z) no-holiday) (λ _. unfold refused in refl)
+        (λ z. same-kind (eqb-true (admission l e) 0 z) no-holiday) (λ _. unfold refused in refl)
 
 pub same-today : SameToday
 unfolding posted
 same-today l b c n no-terms no-holiday =
     let a = accepted l b n in
-    let e = entry_of b in
+    let e = entryOf b in
     let begun = is-begun l e a.admitted (λ z. omega (arith, z, n.kind)) in
-    ap (λ (x : Ledger). (cond (eqb (length c) 32) (postEntry x (entry_of c)) (refused x 1)).answer) a.next
-    ∙ either-answer (eqb (length c) 32) (postEntry (holding l (dayNamed e)) (entry_of c)) (refused (holding l (dayNamed e)) 1) (postEntry l (entry_of c)) (refused l 1)
-    (λ _. same-entry l (dayNamed e) (is-ranged l e a.admitted) a.free begun (entry_of c) no-terms no-holiday)
+    ap (λ (x : Ledger). (cond (eqb (length c) 32) (postEntry x (entryOf c)) (refused x 1)).answer) a.next
+    ∙ either-answer (eqb (length c) 32) (postEntry (holding l (dayNamed e)) (entryOf c)) (refused (holding l (dayNamed e)) 1) (postEntry l (entryOf c)) (refused l 1)
+    (λ _. same-entry l (dayNamed e) (is-ranged l e a.admitted) a.free begun (entryOf c) no-terms no-holiday)
     (λ _. unfold refused in refl)

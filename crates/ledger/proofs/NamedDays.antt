@@ -7,21 +7,21 @@ use lib.Dec.{leb}
 use borrow.Author.Tests.{leb-false, not-false}
 use Rattle.tariff.specs.Dates.{before, real}
 use Rattle.tariff.specs.Holidays.{holidaysInRange, leavesOne, named, storedDates}
-use Rattle.tariff.proofs.Bools.{and_left, and_right, or_left}
+use Rattle.tariff.proofs.Bools.{and-left, and-right, or-left}
 use Rattle.tariff.proofs.BusinessDays.{naming-ranged}
 use Rattle.tariff.proofs.HeldDates.{held-stored}
 use Rattle.ledger.specs.Checks.{verdict}
 use Rattle.ledger.specs.Holiday.{holding, holidayChecks}
-use Rattle.ledger.specs.Ranges.{in_range}
+use Rattle.ledger.specs.Ranges.{inRange}
 use Rattle.ledger.specs.State.{heldIn, withHolidays}
 use Rattle.ledger.specs.Structs.{Date, Ledger}
 use Rattle.ledger.proofs.Bounded.{ranged-parts, ranged-whole}
 use Rattle.ledger.proofs.Verdicts.{clear}
 
 module _ (l : Ledger) (d : Date) where
-  pub held_next : heldIn (holding l d) ≡ heldIn l ++ (d ∷ [])
+  pub held-next : heldIn (holding l d) ≡ heldIn l ++ (d ∷ [])
   unfolding heldIn holding withHolidays
-  held_next = held-stored (heldIn l ++ (d ∷ []))
+  held-next = held-stored (heldIn l ++ (d ∷ []))
 
   module _ (o : verdict (holidayChecks l d) ≡ 0) where
     real-later : real d && before l.date d ≡ true
@@ -29,24 +29,24 @@ module _ (l : Ledger) (d : Date) where
     real-later = not-false (real d && before l.date d) (clear _ refl o 0)
 
     pub is-real-day : real d ≡ true
-    is-real-day = and_left (real d) (before l.date d) real-later
+    is-real-day = and-left (real d) (before l.date d) real-later
 
-    pub is_later : before l.date d ≡ true
-    is_later = and_right (real d) (before l.date d) real-later
+    pub is-later : before l.date d ≡ true
+    is-later = and-right (real d) (before l.date d) real-later
 
-    pub has_room : l.holidays.count < 16
+    pub has-room : l.holidays.count < 16
     unfolding holidayChecks
-    has_room = leb-false 16 l.holidays.count (or_left (leb 16 l.holidays.count) (named (heldIn l) d) (clear _ refl o 1))
+    has-room = leb-false 16 l.holidays.count (or-left (leb 16 l.holidays.count) (named (heldIn l) d) (clear _ refl o 1))
 
     pub leaves-one : leavesOne (heldIn l ++ (d ∷ [])) d ≡ true
     unfolding holidayChecks
     leaves-one = not-false (leavesOne (heldIn l ++ (d ∷ [])) d) (clear _ refl o 2)
 
-    days-ranged : in_range l ≡ true → holidaysInRange (storedDates (heldIn l ++ (d ∷ []))) ≡ true
+    days-ranged : inRange l ≡ true → holidaysInRange (storedDates (heldIn l ++ (d ∷ []))) ≡ true
     unfolding heldIn
-    days-ranged r = naming-ranged l.holidays d (ranged-parts l r).held has_room is-real-day leaves-one
+    days-ranged r = naming-ranged l.holidays d (ranged-parts l r).held has-room is-real-day leaves-one
 
-    pub holding-ranged : in_range l ≡ true → in_range (holding l d) ≡ true
+    pub holding-ranged : inRange l ≡ true → inRange (holding l d) ≡ true
     unfolding holding withHolidays
     holding-ranged r =
         let p = ranged-parts l r in

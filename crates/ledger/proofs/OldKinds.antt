@@ -8,8 +8,8 @@ use lib.Dec.{leb}
 use lib.ListN.{length}
 use borrow.Author.Tests.{eq-eqb, le-leb}
 use Rattle.ledger.specs.Checks.{verdict}
-use Rattle.ledger.specs.Kinds.{kind_of}
-use Rattle.ledger.specs.Entries.{entry_of}
+use Rattle.ledger.specs.Kinds.{kindOf}
+use Rattle.ledger.specs.Entries.{entryOf}
 use Rattle.ledger.specs.Forms.{entryChecks, entryNumber, formNumber}
 use Rattle.ledger.specs.OldAndNew.{isOldKind}
 use Rattle.ledger.specs.Posting.{admission, postEntry, posted}
@@ -25,8 +25,8 @@ module _ (kind : ℕ) (h : isOldKind kind ≡ false) where
   isnt : (n : ℕ) → 1 ≤ n → n ≤ 9 → kind ≡ n → ⊥
   isnt n p q is = absurd (true≢false (sym (within kind (omega arith) (omega arith)) ∙ h))
 
-  pub later : leb (kind_of kind).since 1 ≡ false
-  unfolding kind_of
+  pub later : leb (kindOf kind).since 1 ≡ false
+  unfolding kindOf
   later =
       each (λ (k : Kind). leb k.since 1 ≡ false) kind _
       ((λ is. absurd (isnt 1 (omega arith) (omega arith) is))
@@ -44,11 +44,11 @@ module _ (kind : ℕ) (h : isOldKind kind ≡ false) where
       refl
 
 -- the number of an entry, whatever is asked after it
-module _ (b : List ℕ) (whole : length b ≡ 32) (h : isOldKind (entry_of b).kind ≡ false) where
+module _ (b : List ℕ) (whole : length b ≡ 32) (h : isOldKind (entryOf b).kind ≡ false) where
   pub old-form : formNumber false b ≡ 2
   unfolding formNumber entryNumber entryChecks verdict
-  old-form = rw (eq-eqb (length b) 32 whole, later (entry_of b).kind h)
+  old-form = rw (eq-eqb (length b) 32 whole, later (entryOf b).kind h)
 
   pub old-posted : (l : Ledger) → l.is_new ≡ false → posted l b ≡ refused l 2
   unfolding posted postEntry admission entryChecks verdict
-  old-posted l o = rw (eq-eqb (length b) 32 whole, o, later (entry_of b).kind h)
+  old-posted l o = rw (eq-eqb (length b) 32 whole, o, later (entryOf b).kind h)

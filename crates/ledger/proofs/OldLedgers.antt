@@ -10,13 +10,13 @@ use lib.ListN.{length, get_or, set}
 use borrow.Author.Tests.{eq-eqb, eqb-false, eqb-true, ne_eqb}
 use Rattle.tariff.specs.Dates.{dayAfter}
 use Rattle.tariff.specs.Holidays.{heldDates}
-use Rattle.tariff.proofs.Bools.{and_right, either}
-use Rattle.tariff.proofs.HeldDates.{held-stored, none_from}
+use Rattle.tariff.proofs.Bools.{and-right, either}
+use Rattle.tariff.proofs.HeldDates.{held-stored, none-from}
 use Rattle.tariff.proofs.Laws.{forfeit-value}
 use Rattle.ledger.specs.Structs.{Account, Change, Closed, Entry, Holidays, Ledger, Posted, Report, Terms, Today}
 use Rattle.ledger.specs.Checks.{verdict}
-use Rattle.ledger.specs.Kinds.{kind_of, lookup}
-use Rattle.ledger.specs.Entries.{companySells, dayNamed, entry_of, pricesOf, termsOf}
+use Rattle.ledger.specs.Kinds.{kindOf, lookup}
+use Rattle.ledger.specs.Entries.{companySells, dayNamed, entryOf, pricesOf, termsOf}
 use Rattle.ledger.specs.State.{accountAt, asOpen, fresh, heldIn, noToday, nobody, withAccount, withBank, withCapacity, withCarry, withExcuse, withHolidays, withMeasure, withMonth, withToday, withTotals}
 use Rattle.ledger.specs.Answers.{plain, quiet, refused, settle}
 use Rattle.ledger.specs.Terms.{postTerms, reworked, termsNext}
@@ -86,8 +86,8 @@ module _ (l : Ledger) (e : Entry) where
   stores v f = record { which = refl; untold = λ d u. set-untold l.accounts e.a v (f d u) u; places = λ _ _. refl; unnamed = λ _ u. u }
 
   -- the account that an entry names, with the same day
-  stores_same : (v : Account) → v.today ≡ (accountAt l e.a).today → Kept l e (withAccount l e.a v)
-  stores_same v s = stores v (λ _ u. same-day (accountAt l e.a) v s (u e.a))
+  stores-same : (v : Account) → v.today ≡ (accountAt l e.a).today → Kept l e (withAccount l e.a v)
+  stores-same v s = stores v (λ _ u. same-day (accountAt l e.a) v s (u e.a))
 
 -- ---- each kind of one account
 
@@ -127,12 +127,12 @@ module _ (l : Ledger) (e : Entry) where
       each (λ (c : Change). Kept l e (stored l e.a c).ledger) e.kind _
       ((λ _. settled l e _ _ (stores l e _ (λ _ _. enrolled-untold l.terms e)))
       then (λ _. settled l e _ _ (stores l e _ (λ _ u. delivered-untold l.terms.retainage old e (u e.a))))
-      then (λ _. settled l e _ _ (stores_same l e _ (traded-day old e)))
-      then (λ _. settled l e _ _ (stores_same l e _ (measured-day old e)))
-      then (λ _. settled l e _ _ (stores_same l e _ (metered-day old e)))
+      then (λ _. settled l e _ _ (stores-same l e _ (traded-day old e)))
+      then (λ _. settled l e _ _ (stores-same l e _ (measured-day old e)))
+      then (λ _. settled l e _ _ (stores-same l e _ (metered-day old e)))
       then (λ is. settled l e _ _ (stores l e _ (λ d _. absurd (d is))))
       then done)
-      (settled l e 2 _ (stores_same l e old refl))
+      (settled l e 2 _ (stores-same l e old refl))
 
 -- ---- several accounts
 
@@ -176,9 +176,9 @@ module _ (l : Ledger) (e : Entry) where
   kept-holiday is = record { which = refl; untold = λ _ u. u; places = λ d _. absurd (d is); unnamed = λ d _. absurd (d is) }
 
   -- none held, none left
-  none_kept : (h : Holidays) → heldDates h ≡ [] → heldDates (holidaysAfter e h) ≡ []
+  none-kept : (h : Holidays) → heldDates h ≡ [] → heldDates (holidaysAfter e h) ≡ []
   unfolding holidaysAfter
-  none_kept h u = either (λ (x : Holidays). heldDates x ≡ []) (eqb e.kind 9) _ h (λ _. held-stored _ ∙ rw u (none_from (dayAfter e.date))) (λ _. u)
+  none-kept h u = either (λ (x : Holidays). heldDates x ≡ []) (eqb e.kind 9) _ h (λ _. held-stored _ ∙ rw u (none-from (dayAfter e.date))) (λ _. u)
 
   kept-closing : Kept l e (postClosing l e).ledger
   unfolding postClosing refused
@@ -189,7 +189,7 @@ module _ (l : Ledger) (e : Entry) where
         which = unfold closed in refl;
         untold = λ _ u i. rw (account-closed l e i) (closed-untold l.is_new l.terms e (accountAt l i) (u i));
         places = λ _ d. unfold closed holidaysAfter in rw (ne_eqb e.kind 9 d);
-        unnamed = λ _ u. unfold closed heldIn in (none_kept l.holidays u);
+        unnamed = λ _ u. unfold closed heldIn in (none-kept l.holidays u);
       })
       (λ _. same l e)
 
@@ -207,13 +207,13 @@ module _ (l : Ledger) (e : Entry) where
 
 -- ---- any posting
 
-kept : (l : Ledger) (b : List ℕ) → Kept l (entry_of b) (posted l b).ledger
+kept : (l : Ledger) (b : List ℕ) → Kept l (entryOf b) (posted l b).ledger
 unfolding posted postEntry postKind refused
 kept l b =
-    let e : Entry = entry_of b in
+    let e : Entry = entryOf b in
     either (λ (p : Posted). Kept l e p.ledger) (eqb (length b) 32) _ _
     (λ _. either (λ (p : Posted). Kept l e p.ledger) (eqb (admission l e) 0) _ _
-    (λ _. either (λ (p : Posted). Kept l e p.ledger) (eqb (kind_of e.kind).accounts 1) _ _ (λ _. kept-one l e) (λ _. kept-several l e))
+    (λ _. either (λ (p : Posted). Kept l e p.ledger) (eqb (kindOf e.kind).accounts 1) _ _ (λ _. kept-one l e) (λ _. kept-several l e))
     (λ _. same l e))
     (λ _. same l e)
 
@@ -234,10 +234,10 @@ short-kept l b d = rw (ne_eqb (length b) 32 d)
 
 not-old : (n : ℕ) {kind : ℕ} → leb n 9 ≡ false → isOldKind kind ≡ true → kind ≡ n → ⊥
 unfolding isOldKind
-not-old n {kind} f t is = true≢false (sym (and_right (leb 1 kind) (leb kind 9) t) ∙ ap (λ (m : ℕ). leb m 9) is ∙ f)
+not-old n {kind} f t is = true≢false (sym (and-right (leb 1 kind) (leb kind 9) t) ∙ ap (λ (m : ℕ). leb m 9) is ∙ f)
 
 -- an old ledger refuses the kinds that could make it another
-refused-later : (l : Ledger) (b : List ℕ) → AsBefore l → isOldKind (entry_of b).kind ≡ false → AsBefore (posted l b).ledger
+refused-later : (l : Ledger) (b : List ℕ) → AsBefore l → isOldKind (entryOf b).kind ≡ false → AsBefore (posted l b).ledger
 unfolding refused
 refused-later l b s later = go (eqb (length b) 32) refl
   where
@@ -249,9 +249,9 @@ refused-later l b s later = go (eqb (length b) 32) refl
     go false w = unchanged 1 (short-kept l b (eqb-false (length b) 32 w))
 
 next-before : (l : Ledger) (b : List ℕ) → AsBefore l → AsBefore (posted l b).ledger
-next-before l b s = go (isOldKind (entry_of b).kind) refl
+next-before l b s = go (isOldKind (entryOf b).kind) refl
   where
-    go : (t : Bool) → isOldKind (entry_of b).kind ≡ t → AsBefore (posted l b).ledger
+    go : (t : Bool) → isOldKind (entryOf b).kind ≡ t → AsBefore (posted l b).ledger
     go false z = refused-later l b s z
     go true z =
         record {
@@ -276,9 +276,9 @@ module _ (l : Ledger) (e : Entry) (nine : e.kind ≡ 9) where
   abbrev Closes : Posted → Type 0
   Closes p = p.answer.number ≡ 0 → p ≡ closed l e
 
-  refused_none : (n : ℕ) → (n ≡ 0 → ⊥) → Closes (refused l n)
+  refused-none : (n : ℕ) → (n ≡ 0 → ⊥) → Closes (refused l n)
   unfolding refused plain
-  refused_none n d z = absurd (d z)
+  refused-none n d z = absurd (d z)
 
   several-closes : Closes (postSeveral l e)
   unfolding postSeveral postClosing
@@ -287,33 +287,33 @@ module _ (l : Ledger) (e : Entry) (nine : e.kind ≡ 9) where
       ((λ is. absurd (omega (arith, is, nine)))
       then (λ is. absurd (omega (arith, is, nine)))
       then (λ is. absurd (omega (arith, is, nine)))
-      then (λ _. either Closes (eqb (verdict (closingChecks l e)) 0) (closed l e) _ (λ _ _. refl) (λ f. refused_none _ (eqb-false (verdict (closingChecks l e)) 0 f)))
+      then (λ _. either Closes (eqb (verdict (closingChecks l e)) 0) (closed l e) _ (λ _ _. refl) (λ f. refused-none _ (eqb-false (verdict (closingChecks l e)) 0 f)))
       then (λ is. absurd (omega (arith, is, nine)))
       then done)
-      (refused_none 2 (λ z. omega (arith, z)))
+      (refused-none 2 (λ z. omega (arith, z)))
 
-  pub none_named : (kind_of e.kind).accounts ≡ 0
-  unfolding kind_of lookup
-  none_named = rw nine
+  pub none-named : (kindOf e.kind).accounts ≡ 0
+  unfolding kindOf lookup
+  none-named = rw nine
 
-  entry_closes : Closes (postEntry l e)
+  entry-closes : Closes (postEntry l e)
   unfolding postEntry postKind
-  entry_closes =
+  entry-closes =
       either Closes (eqb (admission l e) 0) _ _
-      (λ _. rw none_named several-closes)
-      (λ f. refused_none (admission l e) (eqb-false (admission l e) 0 f))
+      (λ _. rw none-named several-closes)
+      (λ f. refused-none (admission l e) (eqb-false (admission l e) 0 f))
 
-pub month-closed : (l : Ledger) (b : List ℕ) → (entry_of b).kind ≡ 9 → (posted l b).answer.number ≡ 0 → posted l b ≡ closed l (entry_of b)
+pub month-closed : (l : Ledger) (b : List ℕ) → (entryOf b).kind ≡ 9 → (posted l b).answer.number ≡ 0 → posted l b ≡ closed l (entryOf b)
 unfolding posted
 month-closed l b nine =
-    either (Closes l (entry_of b) nine) (eqb (length b) 32) _ _
-    (λ _. entry_closes l (entry_of b) nine)
-    (λ _. refused_none l (entry_of b) nine 1 (λ y. omega (arith, y)))
+    either (Closes l (entryOf b) nine) (eqb (length b) 32) _ _
+    (λ _. entry-closes l (entryOf b) nine)
+    (λ _. refused-none l (entryOf b) nine 1 (λ y. omega (arith, y)))
 
 -- what it reports
-pub month-reported : (l : Ledger) (b : List ℕ) (i : ℕ) → (posted l b).answer.number ≡ 0 → (entry_of b).kind ≡ 9
-    → get_or (posted l b).answer.reports i quiet ≡ reportOf l.is_new l.terms (entry_of b) (accountAt l i)
-month-reported l b i z nine = ap (λ (p : Posted). get_or p.answer.reports i quiet) (month-closed l b nine z) ∙ account-reported l (entry_of b) i
+pub month-reported : (l : Ledger) (b : List ℕ) (i : ℕ) → (posted l b).answer.number ≡ 0 → (entryOf b).kind ≡ 9
+    → get_or (posted l b).answer.reports i quiet ≡ reportOf l.is_new l.terms (entryOf b) (accountAt l i)
+month-reported l b i z nine = ap (λ (p : Posted). get_or p.answer.reports i quiet) (month-closed l b nine z) ∙ account-reported l (entryOf b) i
 
 -- ---- the forfeit in it
 
@@ -332,4 +332,4 @@ module _ (l : Ledger) (e : Entry) (i : ℕ) (nine : e.kind ≡ 9) (o : (accountA
       ∙ forfeit-value l.is_new (accountAt l i).today.confiscation (excessAt e.date l.terms (afterDay e.date (accountAt l i)))
 
 pub forfeits-by-rule : ForfeitsByRule
-forfeits-by-rule l b i z nine o = ap (λ (r : Report). r.forfeit.0) (month-reported l b i z nine) ∙ reported-forfeit l (entry_of b) i nine o
+forfeits-by-rule l b i z nine o = ap (λ (r : Report). r.forfeit.0) (month-reported l b i z nine) ∙ reported-forfeit l (entryOf b) i nine o

@@ -10,21 +10,21 @@ use lib.ListN.{length, get_or, set, length-set}
 use lib.Seq.{get_or-set_same, get_or-set_other}
 use borrow.Author.Tests.{eqb-true, eqb-false}
 use Rattle.tariff.proofs.Bools.{either}
-use Rattle.ledger.specs.Entries.{entry_of, companySells}
+use Rattle.ledger.specs.Entries.{entryOf, companySells}
 use Rattle.ledger.specs.State.{nobody, accountAt, withAccount}
-use Rattle.ledger.specs.Ranges.{accountInRange, in_range}
+use Rattle.ledger.specs.Ranges.{accountInRange, inRange}
 use Rattle.ledger.specs.Answers.{quiet, plain, refused, settle}
 use Rattle.ledger.specs.Deliver.{amountUnder}
 use Rattle.ledger.specs.Panel.{openBank, bankOf}
 use Rattle.ledger.specs.Structs.{Account, Answer, Entry, Ledger, Posted, Report}
 use Rattle.ledger.proofs.Bounded.{ranged-parts, ranged-whole}
-use Rattle.ledger.proofs.Lists.{every_set}
+use Rattle.ledger.proofs.Lists.{every-set}
 use Rattle.ledger.proofs.ClosedAccounts.{openOwed, openDays, reportMoves, reportDays}
 
 -- what holds of every ledger on the way from a fresh one
 pub record Sound (l : Ledger) : Type 0 where
   pub sized : length l.accounts ≡ 16
-  pub ranged : in_range l ≡ true
+  pub ranged : inRange l ≡ true
 
 -- what a posting of a kind adds to the bank of account i
 abbrev pub gainAt : ℕ → Ledger → Entry → Answer → ℕ → ℤ
@@ -51,14 +51,14 @@ pub record Taken (l : Ledger) (e : Entry) (x : Answer) (next : Ledger) : Type 0 
 
 pub record Step (l : Ledger) (b : List ℕ) (p : Posted) : Type 0 where
   pub kept : eqb p.answer.number 0 ≡ false → p.ledger ≡ l
-  pub taken : eqb p.answer.number 0 ≡ true → Taken l (entry_of b) p.answer p.ledger
+  pub taken : eqb p.answer.number 0 ≡ true → Taken l (entryOf b) p.answer p.ledger
 
 module _ (l : Ledger) (b : List ℕ) where
   pub step-refused : (n : ℕ) → eqb n 0 ≡ false → Step l b (refused l n)
   unfolding refused plain
   step-refused n h = record { kept = λ _. refl; taken = λ z. absurd (false≢true (sym h ∙ z)) }
 
-  pub step-settle : (n : ℕ) (next : Ledger) → (n ≡ 0 → Taken l (entry_of b) (plain 0) next) → Step l b (settle l n next)
+  pub step-settle : (n : ℕ) (next : Ledger) → (n ≡ 0 → Taken l (entryOf b) (plain 0) next) → Step l b (settle l n next)
   unfolding settle refused plain
   step-settle n next f =
       either (λ (m : Ledger). Step l b (record { answer = plain n; ledger = m })) (eqb n 0) next l
@@ -80,11 +80,11 @@ module _ (l : Ledger) (a : ℕ) (v : Account) (n : length l.accounts ≡ 16) (h 
       go true e = rw (← eqb-true a i e) (get_or-set_same l.accounts a v nobody (omega arith))
       go false e = get_or-set_other l.accounts a i v nobody (λ z. eqb-false a i e (sym z))
 
-  pub ranged-stored : in_range l ≡ true → accountInRange v ≡ true → in_range (withAccount l a v) ≡ true
+  pub ranged-stored : inRange l ≡ true → accountInRange v ≡ true → inRange (withAccount l a v) ≡ true
   unfolding withAccount
   ranged-stored r w =
       let p = ranged-parts l r in
-      ranged-whole (withAccount l a v) (record { dated = p.dated; held = p.held; accounts = every_set accountInRange l.accounts a v p.accounts w })
+      ranged-whole (withAccount l a v) (record { dated = p.dated; held = p.held; accounts = every-set accountInRange l.accounts a v p.accounts w })
 
   -- a number of the account that grew by y
   pub grown : (f : Account → ℤ) (y : ℤ) → f v ≡ f (accountAt l a) +ℤ y → (i : ℕ) → f (accountAt (withAccount l a v) i) ≡ f (accountAt l i) +ℤ cond (eqb a i) y (pos 0)

@@ -7,20 +7,20 @@ use borrow.Author.Tests.{leb-true, leb-false, le-leb, eqb-false, eq-eqb, not-fal
 use Rattle.tariff.specs.Dates.{real}
 use Rattle.tariff.specs.Terms.{termsInRange}
 use Rattle.tariff.specs.Bill.{pricesInRange}
-use Rattle.tariff.proofs.Bools.{and_left, and_right, or_left, or_right, parts}
+use Rattle.tariff.proofs.Bools.{and-left, and-right, or-left, or-right, parts}
 use Rattle.ledger.specs.Kinds as kinds
-use Rattle.ledger.specs.Kinds.{lookup, kind_of}
+use Rattle.ledger.specs.Kinds.{lookup, kindOf}
 use Rattle.ledger.specs.Entries.{termsOf, pricesOf}
 use Rattle.ledger.specs.Forms.{accountTooHigh, someUnits, wordsInRange, wrongTransfer, fieldChecks, fieldNumber}
 use Rattle.ledger.specs.Structs.{Entry}
 use Rattle.ledger.proofs.Verdicts.{clear}
 
 module _ (e : Entry) (h : fieldNumber e ≡ 0) where
-  pub is_real : real e.date ≡ true
+  pub is-real : real e.date ≡ true
   unfolding fieldNumber fieldChecks
-  is_real = not-false (real e.date) (clear _ refl h 0)
+  is-real = not-false (real e.date) (clear _ refl h 0)
 
-  accounts-fit : accountTooHigh (kind_of e.kind) e ≡ false
+  accounts-fit : accountTooHigh (kindOf e.kind) e ≡ false
   unfolding fieldNumber fieldChecks
   accounts-fit = clear _ refl h 1
 
@@ -32,13 +32,13 @@ module _ (e : Entry) (h : fieldNumber e ≡ 0) where
   unfolding fieldNumber fieldChecks
   right-transfer = clear _ refl h 4
 
-  pub a-fits : 1 ≤ (kind_of e.kind).accounts → e.a < 16
+  pub a-fits : 1 ≤ (kindOf e.kind).accounts → e.a < 16
   unfolding accountTooHigh
-  a-fits p = leb-false 16 e.a (rw (le-leb 1 (kind_of e.kind).accounts p) at (or_left (leb 1 (kind_of e.kind).accounts && leb 16 e.a) (leb 2 (kind_of e.kind).accounts && leb 16 e.b) accounts-fit))
+  a-fits p = leb-false 16 e.a (rw (le-leb 1 (kindOf e.kind).accounts p) at (or-left (leb 1 (kindOf e.kind).accounts && leb 16 e.a) (leb 2 (kindOf e.kind).accounts && leb 16 e.b) accounts-fit))
 
-  pub b-fits : 2 ≤ (kind_of e.kind).accounts → e.b < 16
+  pub b-fits : 2 ≤ (kindOf e.kind).accounts → e.b < 16
   unfolding accountTooHigh
-  b-fits p = leb-false 16 e.b (rw (le-leb 2 (kind_of e.kind).accounts p) at (or_right (leb 1 (kind_of e.kind).accounts && leb 16 e.a) (leb 2 (kind_of e.kind).accounts && leb 16 e.b) accounts-fit))
+  b-fits p = leb-false 16 e.b (rw (le-leb 2 (kindOf e.kind).accounts p) at (or-right (leb 1 (kindOf e.kind).accounts && leb 16 e.a) (leb 2 (kindOf e.kind).accounts && leb 16 e.b) accounts-fit))
 
   -- ---- the words, kind by kind
 
@@ -60,17 +60,17 @@ module _ (e : Entry) (h : fieldNumber e ≡ 0) where
 
   units-fit : (w : ℕ) → someUnits w ≡ true → w ≤ 1000000000
   unfolding someUnits
-  units-fit w t = leb-true w 1000000000 (and_right (leb 1 w) (leb w 1000000000) t)
+  units-fit w t = leb-true w 1000000000 (and-right (leb 1 w) (leb w 1000000000) t)
 
   pub transfer-units : e.kind ≡ kinds.TRANSFER → someUnits e.w1 ≡ true
   unfolding wordsInRange lookup
-  transfer-units k = and_left (someUnits e.w1) (someUnits e.w2) (rw k at words-fit)
+  transfer-units k = and-left (someUnits e.w1) (someUnits e.w2) (rw k at words-fit)
 
   pub transfer-fits : e.kind ≡ kinds.TRANSFER → (e.w1 ≤ 1000000000) × (e.a ≡ e.b → ⊥)
   unfolding wrongTransfer
   transfer-fits k = (
     units-fit e.w1 (transfer-units k),
-    eqb-false e.a e.b (or_left (eqb e.a e.b) (not (eqb e.w1 e.w2)) (rw (eq-eqb e.kind 4 k) at right-transfer)),
+    eqb-false e.a e.b (or-left (eqb e.a e.b) (not (eqb e.w1 e.w2)) (rw (eq-eqb e.kind 4 k) at right-transfer)),
   )
 
   pub trade-fits : e.kind ≡ kinds.TRADE → e.w1 ≤ 1000000000

@@ -11,14 +11,14 @@ use borrow.Author.Tests.{eqb-true, eqb-false, not-false}
 use Rattle.tariff.specs.Amounts.{sum}
 use Rattle.tariff.specs.Terms.{capacityOf}
 use Rattle.ledger.specs.Structs.{Account, Capacity, Change, Entry, Ledger, Terms}
-use Rattle.tariff.proofs.Bools.{and_left, and_right, either}
+use Rattle.tariff.proofs.Bools.{and-left, and-right, either}
 use Rattle.tariff.proofs.Laws.{sum-value, amount-value}
 use Rattle.ledger.specs.Kinds as kinds
-use Rattle.ledger.specs.Kinds.{lookup, kind_of}
+use Rattle.ledger.specs.Kinds.{lookup, kindOf}
 use Rattle.ledger.specs.Checks.{verdict}
 use Rattle.ledger.specs.Entries.{termsOf, companySells, dayNamed}
 use Rattle.ledger.specs.State.{nobody, accountAt, asOpen, withHolidays, withBank, withMonth, withTotals, withToday, withMeasure, withCapacity, withAccount}
-use Rattle.ledger.specs.Ranges.{accountInRange, in_range}
+use Rattle.ledger.specs.Ranges.{accountInRange, inRange}
 use Rattle.ledger.specs.Answers.{plain}
 use Rattle.ledger.specs.Terms.{reworked, termsNext, termsChecks}
 use Rattle.ledger.specs.Enrol.{newAccount, enrolled, enrolChecks}
@@ -34,18 +34,18 @@ use Rattle.ledger.specs.Panel.{openBank, bankOf}
 use Rattle.ledger.proofs.Verdicts.{first, clear}
 use Rattle.ledger.proofs.NamedDays.{holding-ranged}
 use Rattle.ledger.proofs.RightEntries.{a-fits, b-fits, transfer-fits}
-use Rattle.ledger.proofs.Admitted.{is-begun, is_right}
+use Rattle.ledger.proofs.Admitted.{is-begun, is-right}
 use Rattle.ledger.proofs.ClosedAccounts.{openOwed, openDays, grows}
 use Rattle.ledger.proofs.OneStep.{Sound, Taken, gainAt, same-debt, same-days, leaves, stores, pairs}
 use Rattle.ledger.proofs.Moving.{Moved, gives, takes}
 
-not_chosen : {A : Type 0} (t : Bool) (x y : A) → t ≡ false → cond t x y ≡ y
-not_chosen true x y h = absurd (true≢false h)
-not_chosen false x y h = refl
+not-chosen : {A : Type 0} (t : Bool) (x y : A) → t ≡ false → cond t x y ≡ y
+not-chosen true x y h = absurd (true≢false h)
+not-chosen false x y h = refl
 
-either_way : {A : Type 0} (t : Bool) (x : A) → cond t x x ≡ x
-either_way true x = refl
-either_way false x = refl
+either-way : {A : Type 0} (t : Bool) (x : A) → cond t x x ≡ x
+either-way true x = refl
+either-way false x = refl
 
 -- ---- TERMS leaves what accounts hold
 
@@ -85,7 +85,7 @@ module _ (l : Ledger) (e : Entry) (s : Sound l) (h : admission l e ≡ 0) where
         sound =
             record {
               sized = unfold termsNext in (length-map l.accounts (reworked (termsOf e)) ∙ s.sized);
-              ranged = unfold termsChecks in not-false (in_range (termsNext l e)) (clear _ refl o 0);
+              ranged = unfold termsChecks in not-false (inRange (termsNext l e)) (clear _ refl o 0);
             };
         banks = λ i. reworks openBank (λ c a. unfold withCapacity openBank in refl) i ∙ sym (ap (λ (m : ℕ). openBank (accountAt l i) +ℤ gainAt m l e (plain 0) i) is ∙ +ℤ_idr (openBank (accountAt l i)));
         debts = λ i. reworks openOwed (λ c a. unfold withCapacity in refl) i ∙ same-debt e 1 is refl i (openOwed (accountAt l i));
@@ -104,9 +104,9 @@ module _ (l : Ledger) (e : Entry) (s : Sound l) (h : admission l e ≡ 0) where
       let shut : old.opened ≡ false = clear _ refl o 0 in
       stores e 2 is refl l (enrolled l.terms e) (pos e.w2) refl refl s (begun-before 2 is (λ z. omega (arith, z))) i
       (not-false (accountInRange (enrolled l.terms e)) (clear _ refl o 3))
-      (amount-value (record { 0 = e.w2 }) ∙ sym (ap (λ (z : ℤ). z +ℤ pos e.w2) (not_chosen old.opened old.bank.0 (pos 0) shut) ∙ +ℤ_idl (pos e.w2)))
-      (sym (not_chosen old.opened old.owed.0 (pos 0) shut))
-      (sym (not_chosen old.opened (pos old.violation_days) (pos 0) shut))
+      (amount-value (record { 0 = e.w2 }) ∙ sym (ap (λ (z : ℤ). z +ℤ pos e.w2) (not-chosen old.opened old.bank.0 (pos 0) shut) ∙ +ℤ_idl (pos e.w2)))
+      (sym (not-chosen old.opened old.owed.0 (pos 0) shut))
+      (sym (not-chosen old.opened (pos old.violation_days) (pos 0) shut))
       (λ i. refl)
 
   pub takes-deliver : e.a < 16 → e.kind ≡ kinds.DELIVER → verdict (deliverChecks l.terms.retainage old e) ≡ 0 → Taken l e (plain 0) (withAccount l e.a (afterDelivery l.terms.retainage old e))
@@ -153,7 +153,7 @@ module _ (l : Ledger) (e : Entry) (s : Sound l) (h : admission l e ≡ 0) where
       (sym (+ℤ_idr (openBank old)))
       refl
       refl
-      (λ i. sym (either_way (eqb e.a i) (pos 0)))
+      (λ i. sym (either-way (eqb e.a i) (pos 0)))
 
   pub takes-usage : e.a < 16 → e.kind ≡ kinds.USAGE → verdict (usageChecks old e) ≡ 0 → Taken l e (plain 0) (withAccount l e.a (afterUsage old e))
   unfolding usageChecks afterUsage metered withMonth openBank
@@ -163,7 +163,7 @@ module _ (l : Ledger) (e : Entry) (s : Sound l) (h : admission l e ≡ 0) where
       (sym (+ℤ_idr (openBank old)))
       refl
       refl
-      (λ i. sym (either_way (eqb e.a i) (pos 0)))
+      (λ i. sym (either-way (eqb e.a i) (pos 0)))
 
   pub takes-confiscated : e.a < 16 → e.kind ≡ kinds.CONFISCATED → verdict (confiscationChecks old e) ≡ 0 → Taken l e (plain 0) (withAccount l e.a (afterConfiscation old e))
   unfolding confiscationChecks afterConfiscation withToday openBank
@@ -173,7 +173,7 @@ module _ (l : Ledger) (e : Entry) (s : Sound l) (h : admission l e ≡ 0) where
       (sym (+ℤ_idr (openBank old)))
       refl
       refl
-      (λ i. sym (either_way (eqb e.a i) (pos 0)))
+      (λ i. sym (either-way (eqb e.a i) (pos 0)))
 
   -- ---- HOLIDAY stores none
 
@@ -189,19 +189,19 @@ module _ (l : Ledger) (e : Entry) (s : Sound l) (h : admission l e ≡ 0) where
 
   pub takes-transfer : e.kind ≡ kinds.TRANSFER → verdict (transferChecks l e) ≡ 0
       → Taken l e (plain 0) (withAccount (withAccount l e.a (giver l e).account) e.b (receiver l e).account)
-  unfolding transferChecks kind_of lookup giver receiver
+  unfolding transferChecks kindOf lookup giver receiver
   takes-transfer is o =
-      let two : (kind_of e.kind).accounts ≡ 2 = rw is in
-      let right = is_right l e h in
+      let two : (kindOf e.kind).accounts ≡ 2 = rw is in
+      let right = is-right l e h in
       let gave = gives e.date.month (accountAt l e.a) (record { 0 = e.w1 }) in
       let took = takes e.date.month (accountAt l e.b) (record { 0 = e.w1 }) in
       let open' = not-false ((accountAt l e.a).opened && (accountAt l e.b).opened) (clear _ refl o 0) in
       let free = not-false (eqb (giver l e).number 0 && eqb (receiver l e).number 0) (clear _ refl o 2) in
       pairs e 4 is refl l (giver l e).account (receiver l e).account (pos e.w1) refl s (begun-before 4 is (λ z. omega (arith, z)))
       (a-fits e right (omega arith)) (b-fits e right (omega arith)) (transfer-fits e right is).1
-      (gave.ranged (eqb-true (giver l e).number 0 (and_left (eqb (giver l e).number 0) (eqb (receiver l e).number 0) free)))
-      (took.ranged (eqb-true (receiver l e).number 0 (and_right (eqb (giver l e).number 0) (eqb (receiver l e).number 0) free)))
-      (gave.bank (and_left (accountAt l e.a).opened (accountAt l e.b).opened open'))
-      (took.bank (and_right (accountAt l e.a).opened (accountAt l e.b).opened open'))
+      (gave.ranged (eqb-true (giver l e).number 0 (and-left (eqb (giver l e).number 0) (eqb (receiver l e).number 0) free)))
+      (took.ranged (eqb-true (receiver l e).number 0 (and-right (eqb (giver l e).number 0) (eqb (receiver l e).number 0) free)))
+      (gave.bank (and-left (accountAt l e.a).opened (accountAt l e.b).opened open'))
+      (took.bank (and-right (accountAt l e.a).opened (accountAt l e.b).opened open'))
       gave.debt took.debt gave.days took.days
       (λ i. refl)

@@ -13,23 +13,23 @@ use Rattle.tariff.specs.Amounts.{less, more, within}
 use Rattle.tariff.specs.Dates.{real}
 use Rattle.tariff.specs.Limits.{aboveMaximum, belowMinimum}
 use Rattle.tariff.proofs.Bands.{giver-stays, taker-stays}
-use Rattle.tariff.proofs.Bools.{and_left, and_right, parts}
+use Rattle.tariff.proofs.Bools.{and-left, and-right, parts}
 use Rattle.tariff.proofs.Laws.{same-date}
 use Rattle.tariff.proofs.Ranges.{date-bounds}
 use Rattle.ledger.specs.Answers.{plain, refused, settle}
 use Rattle.ledger.specs.Checks.{verdict}
 use Rattle.ledger.specs.Days.{wrongDay}
-use Rattle.ledger.specs.Entries.{byte_at, entry_of, halfAt, word_at}
+use Rattle.ledger.specs.Entries.{byteAt, entryOf, halfAt, wordAt}
 use Rattle.ledger.specs.Forms.{accountTooHigh, entryChecks, fieldChecks, someUnits, unusedSet, wordsInRange, wrongTransfer}
 use Rattle.ledger.specs.Gas.{afterGiving, afterTaking, giving, givingChecks, taking, takingChecks}
-use Rattle.ledger.specs.Kinds.{kind_of, lookup, version}
+use Rattle.ledger.specs.Kinds.{kindOf, lookup, version}
 use Rattle.ledger.specs.MarkedCases.{word}
 use Rattle.ledger.specs.Posting.{admission, postEntry, postKind, postSeveral, posted, standingChecks}
-use Rattle.ledger.specs.Ranges.{accountInRange, in_range}
+use Rattle.ledger.specs.Ranges.{accountInRange, inRange}
 use Rattle.ledger.specs.State.{accountAt, withBank}
 use Rattle.ledger.specs.Structs.{Account, Date, Entry, Ledger, Units}
 use Rattle.ledger.specs.Transfer.{giver, postTransfer, receiver, transferChecks}
-use Rattle.ledger.proofs.Admitted.{is-begun, is-ranged, is_right}
+use Rattle.ledger.proofs.Admitted.{is-begun, is-ranged, is-right}
 use Rattle.ledger.proofs.Bounded.{account-ranged, begun-ranged, bounded}
 use Rattle.ledger.proofs.RightEntries.{a-fits, b-fits, transfer-fits, transfer-units}
 use Rattle.ledger.proofs.Verdicts.{clear}
@@ -51,7 +51,7 @@ pub record Transferable (l : Ledger) (s j q : ℕ) : Type 0 where
   pub to : j < 16
   pub apart : s ≡ j → ⊥
   pub units : someUnits q ≡ true
-  pub ranged : in_range l ≡ true
+  pub ranged : inRange l ≡ true
   pub begun : l.begun ≡ true
   pub gives : (accountAt l s).opened ≡ true
   pub takes : (accountAt l j).opened ≡ true
@@ -60,27 +60,27 @@ pub record Transferable (l : Ledger) (s j q : ℕ) : Type 0 where
 
 -- ---- the bytes, read back
 
-half_back : (n : ℕ) → n < 65536 → n % 256 + 256 * (n / 256 % 256) ≡ n
-half_back n h = omega arith
+half-back : (n : ℕ) → n < 65536 → n % 256 + 256 * (n / 256 % 256) ≡ n
+half-back n h = omega arith
 
-bytes_back : (n : ℕ) → n < 4294967296 → n % 256 + 256 * (n / 256 % 256 + 256 * (n / 256 / 256 % 256 + 256 * (n / 256 / 256 / 256 % 256))) ≡ n
-bytes_back n h =
+bytes-back : (n : ℕ) → n < 4294967296 → n % 256 + 256 * (n / 256 % 256 + 256 * (n / 256 / 256 % 256 + 256 * (n / 256 / 256 / 256 % 256))) ≡ n
+bytes-back n h =
     let top : n / 256 / 256 / 256 < 256 = omega arith in
-    let one : n / 256 / 256 % 256 + 256 * (n / 256 / 256 / 256 % 256) ≡ n / 256 / 256 = half_back (n / 256 / 256) (omega arith) in
+    let one : n / 256 / 256 % 256 + 256 * (n / 256 / 256 / 256 % 256) ≡ n / 256 / 256 = half-back (n / 256 / 256) (omega arith) in
     omega arith
 
-word_back : (n : ℕ) → n < 4294967296 → n % 256 + 256 * (n / 256 % 256 + 256 * (n / 65536 % 256 + 256 * (n / 16777216 % 256))) ≡ n
-word_back n h =
+word-back : (n : ℕ) → n < 4294967296 → n % 256 + 256 * (n / 256 % 256 + 256 * (n / 65536 % 256 + 256 * (n / 16777216 % 256))) ≡ n
+word-back n h =
     let two : n / 256 / 256 ≡ n / 65536 = div-div-eq-div-mul n 256 256 in
     let three : n / 65536 / 256 ≡ n / 16777216 = div-div-eq-div-mul n 65536 256 in
-    rw (← three, ← two) (bytes_back n h)
+    rw (← three, ← two) (bytes-back n h)
 
-entry-back : (date : Date) (s j q : ℕ) → real date ≡ true → q < 4294967296 → entry_of (transferBytes date s j q) ≡ transferOn date s j q
-unfolding entry_of byte_at halfAt word_at
+entry-back : (date : Date) (s j q : ℕ) → real date ≡ true → q < 4294967296 → entryOf (transferBytes date s j q) ≡ transferOn date s j q
+unfolding entryOf byteAt halfAt wordAt
 entry-back date s j q r h =
     let bounds = date-bounds date r in
     let year : date.year < 65536 = omega arith in
-    rw (half_back date.year year, word_back q h)
+    rw (half-back date.year year, word-back q h)
 
 -- ---- an account in range with another bank in range
 
@@ -99,7 +99,7 @@ module _ (l : Ledger) (s j q : ℕ) where
   -- ---- the number
 
   by-admission : (t : Bool) → (cond t (postKind l e) (refused l (admission l e))).answer.number ≡ cond t (verdict (transferChecks l e)) (admission l e)
-  unfolding postKind postSeveral kind_of lookup postTransfer settle refused plain
+  unfolding postKind postSeveral kindOf lookup postTransfer settle refused plain
   by-admission true = refl
   by-admission false = refl
 
@@ -118,24 +118,24 @@ module _ (l : Ledger) (s j q : ℕ) where
   -- ---- accepted, so transferable
 
   module _ (h : admission l e ≡ 0) (v : verdict (transferChecks l e) ≡ 0) where
-    opened_both : (accountAt l s).opened && (accountAt l j).opened ≡ true
+    opened-both : (accountAt l s).opened && (accountAt l j).opened ≡ true
     unfolding transferChecks
-    opened_both = not-false ((accountAt l s).opened && (accountAt l j).opened) (clear _ refl v 0)
+    opened-both = not-false ((accountAt l s).opened && (accountAt l j).opened) (clear _ refl v 0)
 
     numbers-zero : eqb (giver l e).number 0 && eqb (receiver l e).number 0 ≡ true
     unfolding transferChecks
     numbers-zero = not-false (eqb (giver l e).number 0 && eqb (receiver l e).number 0) (clear _ refl v 2)
 
     gave : (giver l e).number ≡ 0
-    gave = eqb-true (giver l e).number 0 (and_left (eqb (giver l e).number 0) (eqb (receiver l e).number 0) numbers-zero)
+    gave = eqb-true (giver l e).number 0 (and-left (eqb (giver l e).number 0) (eqb (receiver l e).number 0) numbers-zero)
 
     took : (receiver l e).number ≡ 0
-    took = eqb-true (receiver l e).number 0 (and_right (eqb (giver l e).number 0) (eqb (receiver l e).number 0) numbers-zero)
+    took = eqb-true (receiver l e).number 0 (and-right (eqb (giver l e).number 0) (eqb (receiver l e).number 0) numbers-zero)
 
     transferable : Transferable l s j q
-    unfolding giver receiver giving taking givingChecks takingChecks afterGiving afterTaking withBank kind_of lookup
+    unfolding giver receiver giving taking givingChecks takingChecks afterGiving afterTaking withBank kindOf lookup
     transferable =
-        let right = is_right l e h in
+        let right = is-right l e h in
         record {
           from = a-fits e right (omega arith);
           to = b-fits e right (omega arith);
@@ -143,28 +143,28 @@ module _ (l : Ledger) (s j q : ℕ) where
           units = transfer-units e right refl;
           ranged = is-ranged l e h;
           begun = is-begun l e h (λ (k : 4 ≡ 1). omega arith);
-          gives = and_left (accountAt l s).opened (accountAt l j).opened opened_both;
-          takes = and_right (accountAt l s).opened (accountAt l j).opened opened_both;
+          gives = and-left (accountAt l s).opened (accountAt l j).opened opened-both;
+          takes = and-right (accountAt l s).opened (accountAt l j).opened opened-both;
           kept = clear _ refl gave 0;
           fits = clear _ refl took 0;
         }
 
   -- whatever date the bytes have, they are accepted only by a ledger that stands at a real one
-  was-admitted : (t : Bool) → eqb (admission l (entry_of bytes)) 0 ≡ t → (cond t (postKind l (entry_of bytes)) (refused l (admission l (entry_of bytes)))).answer.number ≡ 0
-      → admission l (entry_of bytes) ≡ 0
+  was-admitted : (t : Bool) → eqb (admission l (entryOf bytes)) 0 ≡ t → (cond t (postKind l (entryOf bytes)) (refused l (admission l (entryOf bytes)))).answer.number ≡ 0
+      → admission l (entryOf bytes) ≡ 0
   unfolding refused plain
-  was-admitted true z h = eqb-true (admission l (entry_of bytes)) 0 z
+  was-admitted true z h = eqb-true (admission l (entryOf bytes)) 0 z
   was-admitted false z h = h
 
-  is-transfer : (entry_of bytes).kind ≡ 4
-  unfolding entry_of byte_at
+  is-transfer : (entryOf bytes).kind ≡ 4
+  unfolding entryOf byteAt
   is-transfer = refl
 
   at-a-date : (posted l bytes).answer.number ≡ 0 → real l.date ≡ true
   unfolding posted postEntry
   at-a-date z =
-      let h = was-admitted (eqb (admission l (entry_of bytes)) 0) refl z in
-      (begun-ranged l (is-ranged l (entry_of bytes) h) (is-begun l (entry_of bytes) h (λ (k : (entry_of bytes).kind ≡ 1). omega (arith, is-transfer)))).0
+      let h = was-admitted (eqb (admission l (entryOf bytes)) 0) refl z in
+      (begun-ranged l (is-ranged l (entryOf bytes) h) (is-begun l (entryOf bytes) h (λ (k : (entryOf bytes).kind ≡ 1). omega (arith, is-transfer)))).0
 
   pub accepted-only-if : q < 4294967296 → (posted l bytes).answer.number ≡ 0 → Transferable l s j q
   accepted-only-if w z =
@@ -185,7 +185,7 @@ module _ (l : Ledger) (s j q : ℕ) where
     no-fault b₂ b₃ b₄ b₅ b₆ b₇ b₂₀ b₂₁ b₂₂ b₂₃ f₂ f₃ f₄ f₅ f₆ f₇ f₂₀ f₂₁ f₂₂ f₂₃ = rw (f₂, f₃, f₄, f₅, f₆, f₇, f₂₀, f₂₁, f₂₂, f₂₃)
 
     admitted : admission l e ≡ 0
-    unfolding admission entryChecks fieldChecks standingChecks kind_of lookup accountTooHigh unusedSet wordsInRange wrongTransfer wrongDay
+    unfolding admission entryChecks fieldChecks standingChecks kindOf lookup accountTooHigh unusedSet wordsInRange wrongTransfer wrongDay
     admitted =
         no-fault _ _ _ _ _ _ _ _ _ _
         (rw (any-version l.is_new))

@@ -6,7 +6,7 @@ use mathlib.Core.List.{List, [], ◌∷◌, ◌++◌}
 use lib.Dec.{eqb}
 use lib.ListN.{get_or}
 use borrow.Author.Tests.{not-true}
-use Rattle.tariff.proofs.Bools.{and_left, and_right}
+use Rattle.tariff.proofs.Bools.{and-left, and-right}
 use Rattle.ledger.specs.Checks.{Check, verdict}
 
 -- no check has the number 0
@@ -31,15 +31,15 @@ verdict-next c cs = refl
 pub clear : (cs : List Check) → numbered cs ≡ true → verdict cs ≡ 0 → (i : ℕ) → (get_or cs i (false, 0)).0 ≡ false
 unfolding verdict
 clear [] t h i = refl
-clear (c ∷ cs) t h zero = (first c.0 c.1 (verdict cs) (and_left (not (eqb c.1 0)) (numbered cs) t) h).0
+clear (c ∷ cs) t h zero = (first c.0 c.1 (verdict cs) (and-left (not (eqb c.1 0)) (numbered cs) t) h).0
 clear (c ∷ cs) t h (suc i) =
-    clear cs (and_right (not (eqb c.1 0)) (numbered cs) t) (first c.0 c.1 (verdict cs) (and_left (not (eqb c.1 0)) (numbered cs) t) h).1 i
+    clear cs (and-right (not (eqb c.1 0)) (numbered cs) t) (first c.0 c.1 (verdict cs) (and-left (not (eqb c.1 0)) (numbered cs) t) h).1 i
 
 -- checks after checks: the first list's verdict where that is not 0, else the second's
 pub verdict-append : (cs ds : List Check) → numbered cs ≡ true → verdict (cs ++ ds) ≡ cond (eqb (verdict cs) 0) (verdict ds) (verdict cs)
 unfolding verdict
 verdict-append [] ds t = refl
-verdict-append (c ∷ cs) ds t = go c.0 c.1 (verdict cs) (verdict (cs ++ ds)) (and_left (not (eqb c.1 0)) (numbered cs) t) (verdict-append cs ds (and_right (not (eqb c.1 0)) (numbered cs) t))
+verdict-append (c ∷ cs) ds t = go c.0 c.1 (verdict cs) (verdict (cs ++ ds)) (and-left (not (eqb c.1 0)) (numbered cs) t) (verdict-append cs ds (and-right (not (eqb c.1 0)) (numbered cs) t))
   where
     go : (b : Bool) (n rest whole : ℕ) → not (eqb n 0) ≡ true → whole ≡ cond (eqb rest 0) (verdict ds) rest
         → cond b n whole ≡ cond (eqb (cond b n rest) 0) (verdict ds) (cond b n rest)

@@ -4,7 +4,7 @@ use Rattle.ledger.specs.Structs.{Account, Capacity, Closed, Date, Entry, Mills, 
 use Rattle.tariff.specs.Amounts.{sum, less, inward, outward, together, added}
 use Rattle.tariff.specs.Terms.{capacityOf}
 use Rattle.tariff.specs.Steps.{settledStep, falls}
-use Rattle.tariff.specs.Closing.{withdrawalLimit, breaksV3, breaksV4, breaksV5, breaksV6, breaksV7, breaksV8, cashOf, endsExcuse, carryOf, forfeitOf, forfeitUnder, mask_of}
+use Rattle.tariff.specs.Closing.{withdrawalLimit, breaksV3, breaksV4, breaksV5, breaksV6, breaksV7, breaksV8, cashOf, endsExcuse, carryOf, forfeitOf, forfeitUnder, maskOf}
 use Rattle.tariff.specs.Bill.{billOf}
 use Rattle.ledger.specs.Kinds as kinds
 use Rattle.ledger.specs.Entries.{pricesOf}
@@ -21,7 +21,7 @@ limitOf d a = withdrawalLimit d.month a.capacity.bcq a.carry
 -- R51: the mask. V1 and V2 were judged by the delivery; V3 to V8 see the account as it is before any cash.
 unfoldable pub violationsOf : Date → Account → ℕ
 violationsOf d a =
-    mask_of a.today.v1 a.today.v2
+    maskOf a.today.v1 a.today.v2
     (breaksV3 d.month a.capacity.bcq a.month.totals.net)
     (breaksV4 d.month (limitOf d a) a.month.totals.net)
     (breaksV5 d a.capacity.bcq a.month.totals.net)

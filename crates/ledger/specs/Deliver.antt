@@ -2,7 +2,7 @@
 use Rattle.tariff.specs.Vocabulary.{ℕ, true, not, List, [], ◌∷◌}
 use Rattle.ledger.specs.Structs.{Account, Change, Entry, Month, Quantity, Terms, Today, Totals, Units}
 use Rattle.tariff.specs.Amounts.{sum}
-use Rattle.tariff.specs.Delivery.{retained, breaksV1, share_of, breaksV2}
+use Rattle.tariff.specs.Delivery.{retained, breaksV1, shareOf, breaksV2}
 use Rattle.ledger.specs.Checks.{Check, verdict}
 use Rattle.ledger.specs.State.{totals, withBank, withTotals, withToday}
 use Rattle.ledger.specs.Ranges.{accountInRange}
@@ -21,7 +21,7 @@ deliveredToday m a amount backCast =
     record {
       delivered = true;
       v1 = breaksV1 m a.capacity.bcq amount;
-      v2 = breaksV2 (share_of a.bank a.capacity.bcq backCast a.mdq) a.capacity.mddq amount;
+      v2 = breaksV2 (shareOf a.bank a.capacity.bcq backCast a.mdq) a.capacity.mddq amount;
       confiscated = a.today.confiscated;
       confiscation = a.today.confiscation;
     }

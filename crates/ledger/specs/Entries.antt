@@ -6,30 +6,30 @@ use Rattle.tariff.specs.Terms.{termsFrom}
 -- ---- the bytes taken apart
 
 -- R11: one byte, and numbers of two and of four, the lowest byte first. Archives count in the same way (R68).
-unfoldable pub byte_at : List ℕ → ℕ → ℕ
-byte_at bytes at = get_or bytes at 0
+unfoldable pub byteAt : List ℕ → ℕ → ℕ
+byteAt bytes at = get_or bytes at 0
 
 unfoldable pub halfAt : List ℕ → ℕ → ℕ
-halfAt bytes at = byte_at bytes at + 256 * byte_at bytes (at + 1)
+halfAt bytes at = byteAt bytes at + 256 * byteAt bytes (at + 1)
 
-unfoldable pub word_at : List ℕ → ℕ → ℕ
-word_at bytes at = byte_at bytes at + 256 * (byte_at bytes (at + 1) + 256 * (byte_at bytes (at + 2) + 256 * byte_at bytes (at + 3)))
+unfoldable pub wordAt : List ℕ → ℕ → ℕ
+wordAt bytes at = byteAt bytes at + 256 * (byteAt bytes (at + 1) + 256 * (byteAt bytes (at + 2) + 256 * byteAt bytes (at + 3)))
 
 -- R11: every field at its offset.
-unfoldable pub entry_of : List ℕ → Entry
-entry_of bytes =
+unfoldable pub entryOf : List ℕ → Entry
+entryOf bytes =
     record {
-      kind = byte_at bytes 0;
-      a = byte_at bytes 1;
-      b = byte_at bytes 2;
-      flags = byte_at bytes 3;
-      date = record { year = halfAt bytes 4; month = record { 0 = byte_at bytes 6 }; day = byte_at bytes 7 };
-      w1 = word_at bytes 8;
-      w2 = word_at bytes 12;
-      w3 = word_at bytes 16;
-      w4 = word_at bytes 20;
-      w5 = word_at bytes 24;
-      w6 = word_at bytes 28;
+      kind = byteAt bytes 0;
+      a = byteAt bytes 1;
+      b = byteAt bytes 2;
+      flags = byteAt bytes 3;
+      date = record { year = halfAt bytes 4; month = record { 0 = byteAt bytes 6 }; day = byteAt bytes 7 };
+      w1 = wordAt bytes 8;
+      w2 = wordAt bytes 12;
+      w3 = wordAt bytes 16;
+      w4 = wordAt bytes 20;
+      w5 = wordAt bytes 24;
+      w6 = wordAt bytes 28;
     }
 
 -- ---- what words and flags mean

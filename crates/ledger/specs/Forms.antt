@@ -7,7 +7,7 @@ use Rattle.tariff.specs.Terms.{termsInRange}
 use Rattle.tariff.specs.Bill.{pricesInRange}
 use Rattle.ledger.specs.Checks.{Check, verdict}
 use Rattle.ledger.specs.Kinds as kinds
-use Rattle.ledger.specs.Entries.{entry_of, termsOf, pricesOf}
+use Rattle.ledger.specs.Entries.{entryOf, termsOf, pricesOf}
 
 -- R15, number 4: an account that the kind uses is none of the sixteen.
 unfoldable pub accountTooHigh : Kind → Entry → Bool
@@ -56,8 +56,8 @@ wrongTransfer e = eqb e.kind kinds.TRANSFER && (eqb e.a e.b || not (eqb e.w1 e.w
 unfoldable pub fieldChecks : Entry → List Check
 fieldChecks e =
     (not (real e.date), 3)
-    ∷ (accountTooHigh (kinds.kind_of e.kind) e, 4)
-    ∷ (unusedSet (kinds.kind_of e.kind) e, 5)
+    ∷ (accountTooHigh (kinds.kindOf e.kind) e, 4)
+    ∷ (unusedSet (kinds.kindOf e.kind) e, 5)
     ∷ (not (wordsInRange e), 6)
     ∷ (wrongTransfer e, 7)
     ∷ []
@@ -67,7 +67,7 @@ fieldNumber e = verdict (fieldChecks e)
 
 -- R15: number 2 comes before them, as they ask what the kind uses. A kind of the new rules is none in an old ledger or archive (R84).
 unfoldable pub entryChecks : Bool → Entry → List Check
-entryChecks new e = (not (leb (kinds.kind_of e.kind).since (kinds.version new)), 2) ∷ fieldChecks e
+entryChecks new e = (not (leb (kinds.kindOf e.kind).since (kinds.version new)), 2) ∷ fieldChecks e
 
 -- R15: the number of 32 bytes: 0, or 2 to 7.
 unfoldable pub entryNumber : Bool → Entry → ℕ
@@ -75,4 +75,4 @@ entryNumber new e = verdict (entryChecks new e)
 
 -- R15: the number of bytes of any length: 0, or 1 to 7.
 unfoldable pub formNumber : Bool → List ℕ → ℕ
-formNumber new bytes = cond (eqb (length bytes) 32) (entryNumber new (entry_of bytes)) 1
+formNumber new bytes = cond (eqb (length bytes) 32) (entryNumber new (entryOf bytes)) 1

@@ -55,8 +55,8 @@ version new = cond new 2 1
 
 -- R12: the accounts that a kind names (none: it is the ledger's matter; one: A's; two: A's and B's), its largest flags, how many of its words
 -- it uses, from w1 on, and which version of the rules brought it.
-unfoldable pub kind_of : ℕ → Kind
-kind_of kind =
+unfoldable pub kindOf : ℕ → Kind
+kindOf kind =
     lookup kind
     ((TERMS, row 0 0 6 1)
     ∷ (ENROL, row 1 3 2 1)

@@ -1,8 +1,8 @@
 -- What sets old ledgers and new ones apart, and that an old one is answered as it was before there were new ones.
 use Rattle.tariff.specs.Vocabulary.{ℕ, min, Bool, false, true, cond, ◌&&◌, leb, List, [], length, get_or, ◌≡◌}
 use Rattle.ledger.specs.Structs.{Date, Ledger, Report}
-use Rattle.ledger.specs.Kinds.{TERMS, CLOSE-MONTH, kind_of}
-use Rattle.ledger.specs.Entries.{entry_of}
+use Rattle.ledger.specs.Kinds.{TERMS, CLOSE-MONTH, kindOf}
+use Rattle.ledger.specs.Entries.{entryOf}
 use Rattle.ledger.specs.State.{fresh, accountAt, heldIn, ledger}
 use Rattle.ledger.specs.Answers.{quiet, refused}
 use Rattle.ledger.specs.Closing.{afterDay, excessAt}
@@ -20,7 +20,7 @@ KeepsWhich = (l : Ledger) (b : List ℕ) → (posted l b).ledger.is_new ≡ l.is
 -- R84: to an old ledger no later kind is one, whatever else the entry holds.
 abbrev pub NineKinds : Type 0
 NineKinds =
-    (l : Ledger) (b : List ℕ) → l.is_new ≡ false → length b ≡ 32 → isOldKind (entry_of b).kind ≡ false → posted l b ≡ refused l 2
+    (l : Ledger) (b : List ℕ) → l.is_new ≡ false → length b ≡ 32 → isOldKind (entryOf b).kind ≡ false → posted l b ≡ refused l 2
 
 -- R88: an old ledger as the old rules knew it: nothing confiscated was ever told of an account, and no holiday was named.
 pub record AsBefore (l : Ledger) : Type 0 where
@@ -39,18 +39,18 @@ told new l = ledger l.begun l.touched new l.date l.terms l.holidays l.accounts
 
 -- R84: the kind is one that only new ledgers have.
 abbrev pub OnlyNew : ℕ → Type 0
-OnlyNew kind = (kind_of kind).since ≡ 2
+OnlyNew kind = (kindOf kind).since ≡ 2
 
 -- R84: so told, it answers any bytes as before but a CLOSE MONTH and the kinds that only new ledgers have, and what it becomes is the same too.
 abbrev pub AlikeOtherwise : Type 0
 AlikeOtherwise =
-    (l : Ledger) (new : Bool) (b : List ℕ) → ((entry_of b).kind ≡ CLOSE-MONTH → ⊥) → (OnlyNew (entry_of b).kind → ⊥)
+    (l : Ledger) (new : Bool) (b : List ℕ) → ((entryOf b).kind ≡ CLOSE-MONTH → ⊥) → (OnlyNew (entryOf b).kind → ⊥)
     → posted (told new l) b ≡ record { answer = (posted l b).answer; ledger = told new (posted l b).ledger }
 
 -- R84: it accepts any bytes but those kinds where it did, and refuses others with the same number.
 abbrev pub AcceptsAlike : Type 0
 AcceptsAlike =
-    (l : Ledger) (new : Bool) (b : List ℕ) → (OnlyNew (entry_of b).kind → ⊥) → (posted (told new l) b).answer.number ≡ (posted l b).answer.number
+    (l : Ledger) (new : Bool) (b : List ℕ) → (OnlyNew (entryOf b).kind → ⊥) → (posted (told new l) b).answer.number ≡ (posted l b).answer.number
 
 -- R86: two reports that differ in the forfeit at most.
 pub record SameButForfeit (r s : Report) : Type 0 where
@@ -66,12 +66,12 @@ excessIn l d i = (excessAt d l.terms (afterDay d (accountAt l i))).0
 -- that and the amount on record.
 abbrev pub ForfeitsByRule : Type 0
 ForfeitsByRule =
-    (l : Ledger) (b : List ℕ) (i : ℕ) → (posted l b).answer.number ≡ 0 → (entry_of b).kind ≡ CLOSE-MONTH → (accountAt l i).opened ≡ true
+    (l : Ledger) (b : List ℕ) (i : ℕ) → (posted l b).answer.number ≡ 0 → (entryOf b).kind ≡ CLOSE-MONTH → (accountAt l i).opened ≡ true
     → (get_or (posted l b).answer.reports i quiet).forfeit.0
-    ≡ cond l.is_new (min (accountAt l i).today.confiscation.0 (excessIn l (entry_of b).date i)) (excessIn l (entry_of b).date i)
+    ≡ cond l.is_new (min (accountAt l i).today.confiscation.0 (excessIn l (entryOf b).date i)) (excessIn l (entryOf b).date i)
 
 -- R86: what else it reports of an account, mask, cash and bill, is the same of the ledger told otherwise.
 abbrev pub ReportsAlike : Type 0
 ReportsAlike =
-    (l : Ledger) (new : Bool) (b : List ℕ) (i : ℕ) → (posted l b).answer.number ≡ 0 → (entry_of b).kind ≡ CLOSE-MONTH
+    (l : Ledger) (new : Bool) (b : List ℕ) (i : ℕ) → (posted l b).answer.number ≡ 0 → (entryOf b).kind ≡ CLOSE-MONTH
     → SameButForfeit (get_or (posted l b).answer.reports i quiet) (get_or (posted (told new l) b).answer.reports i quiet)

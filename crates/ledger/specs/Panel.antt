@@ -2,7 +2,7 @@
 use Rattle.tariff.specs.Vocabulary.{ℕ, ℤ, pos, ◌+ℤ◌, cond, List, [], ◌∷◌}
 use Rattle.ledger.specs.Structs.{Account, Ledger, Panel}
 use Rattle.ledger.specs.State.{accountAt}
-use Rattle.ledger.specs.Ranges.{in_range}
+use Rattle.ledger.specs.Ranges.{inRange}
 
 -- R60: the bank of an open account; any other counts as 0 (R20).
 unfoldable pub openBank : Account → ℤ
@@ -21,6 +21,6 @@ openBanks (a ∷ rest) = openBank a +ℤ openBanks rest
 unfoldable pub panelOf : Ledger → Panel
 panelOf l =
     record {
-      number = cond (in_range l) 0 20;
-      figure = record { 0 = cond (in_range l) (openBanks l.accounts) (pos 0) };
+      number = cond (inRange l) 0 20;
+      figure = record { 0 = cond (inRange l) (openBanks l.accounts) (pos 0) };
     }

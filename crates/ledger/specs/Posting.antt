@@ -4,9 +4,9 @@ use Rattle.ledger.specs.Structs.{Account, Change, Entry, Ledger, Posted, Terms}
 use Rattle.tariff.specs.Dates.{sameDate}
 use Rattle.ledger.specs.Checks.{Check, verdict}
 use Rattle.ledger.specs.Kinds as kinds
-use Rattle.ledger.specs.Entries.{entry_of}
+use Rattle.ledger.specs.Entries.{entryOf}
 use Rattle.ledger.specs.Forms.{entryChecks}
-use Rattle.ledger.specs.Ranges.{in_range}
+use Rattle.ledger.specs.Ranges.{inRange}
 use Rattle.ledger.specs.State.{accountAt, heldIn, withAccount}
 use Rattle.ledger.specs.Answers.{refused, settle}
 use Rattle.ledger.specs.Terms.{postTerms}
@@ -25,7 +25,7 @@ use Rattle.ledger.specs.Days.{wrongDay}
 -- 23 belongs to the kinds (R27, R30, R40, R42, R85) and is asked here as the first of their checks.
 unfoldable pub standingChecks : Ledger → Entry → List Check
 standingChecks l e =
-    (not (in_range l), 20)
+    (not (inRange l), 20)
     ∷ (not l.begun && not (eqb e.kind kinds.TERMS), 21)
     ∷ (l.begun && not (sameDate e.date l.date), 22)
     ∷ (wrongDay l.touched (heldIn l) e, 23)
@@ -67,7 +67,7 @@ stored l i c = settle l c.number (withAccount l i c.account)
 -- R23: the kind's own checks, and what it does.
 unfoldable pub postKind : Ledger → Entry → Posted
 postKind l e =
-    cond (eqb (kinds.kind_of e.kind).accounts 1)
+    cond (eqb (kinds.kindOf e.kind).accounts 1)
     (stored l e.a (changeOf l.terms (accountAt l e.a) e))
     (postSeveral l e)
 
@@ -77,4 +77,4 @@ postEntry l e = cond (eqb (admission l e) 0) (postKind l e) (refused l (admissio
 
 -- R23: any bytes; number 1 comes before all others. A ledger that is lent becomes the one returned here (R24).
 unfoldable pub posted : Ledger → List ℕ → Posted
-posted l bytes = cond (eqb (length bytes) 32) (postEntry l (entry_of bytes)) (refused l 1)
+posted l bytes = cond (eqb (length bytes) 32) (postEntry l (entryOf bytes)) (refused l 1)

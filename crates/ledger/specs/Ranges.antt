@@ -41,8 +41,8 @@ everyAccount p [] = true
 everyAccount p (a ∷ rest) = p a && everyAccount p rest
 
 -- R18: before the ledger has begun, date and terms mean nothing and may be anything. The holidays are asked even then (R103).
-unfoldable pub in_range : Ledger → Bool
-in_range l =
+unfoldable pub inRange : Ledger → Bool
+inRange l =
     (not l.begun || (real l.date && termsInRange l.terms))
     && holidaysInRange l.holidays
     && everyAccount accountInRange l.accounts

@@ -5,7 +5,7 @@ use Rattle.tariff.specs.Terms.{capacityOf}
 use Rattle.ledger.specs.Checks.{Check, verdict}
 use Rattle.ledger.specs.Entries.{termsOf}
 use Rattle.ledger.specs.State.{ledger, withCapacity}
-use Rattle.ledger.specs.Ranges.{in_range}
+use Rattle.ledger.specs.Ranges.{inRange}
 use Rattle.ledger.specs.Answers.{settle}
 
 -- R27: an open account keeps its step and gets MDDQ and BCQ by the new terms.
@@ -18,7 +18,7 @@ termsNext l e = ledger true true l.is_new e.date (termsOf e) l.holidays (map (re
 
 -- R27: 29 alone, which never comes (R23); the day, 23, was asked before.
 unfoldable pub termsChecks : Ledger → Entry → List Check
-termsChecks l e = (not (in_range (termsNext l e)), 29) ∷ []
+termsChecks l e = (not (inRange (termsNext l e)), 29) ∷ []
 
 -- R27: the posting.
 unfoldable pub postTerms : Ledger → Entry → Posted

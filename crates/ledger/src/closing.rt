@@ -160,9 +160,9 @@ fn month_end(
     bill: Mills,
     a: Account,
 ) -> Account
-    requires bank_bound { (size a.bank ≤ 300000000000) × (forfeit.0 ≤ 300000000000) }
-    requires owed_bound { (sizeMills a.owed ≤ mostOwed) × (sizeMills bill ≤ 2000000000000000) }
-    requires limit_bound { (limit.0 ≤ 3060000000) × (size a.month.totals.net ≤ mostBank) }
+    requires bank_fits { (size a.bank ≤ 300000000000) × (forfeit.0 ≤ 300000000000) }
+    requires owed_fits { (sizeMills a.owed ≤ mostOwed) × (sizeMills bill ≤ 2000000000000000) }
+    requires limit_fits { (limit.0 ≤ 3060000000) × (size a.month.totals.net ≤ mostBank) }
     ensures { result ≡ monthEnd d limit step capacity forfeit bill a }
 {
     let month = d.month;
@@ -184,8 +184,8 @@ fn month_end(
 }
 
 fn close_month(is_new: bool, d: Date, t: Terms, p: Prices, a: Account) -> Closed
-    requires d_value { (real d ≡ true) × (accountInRange a ≡ true) × (a.opened ≡ true) }
-    requires t_value { (termsInRange t ≡ true) × (pricesInRange p ≡ true) }
+    requires closing { (real d ≡ true) × (accountInRange a ≡ true) × (a.opened ≡ true) }
+    requires ranged { (termsInRange t ≡ true) × (pricesInRange p ≡ true) }
     ensures { result ≡ monthClosing is_new d t p a }
 {
     let month = d.month;
@@ -229,7 +229,7 @@ fn left_alone(a: Account) -> Closed
 }
 
 pub fn close_account(is_new: bool, t: Terms, e: Entry, a: Account) -> Closed
-    requires date_value { (real e.date ≡ true) × (accountInRange a ≡ true) × (termsInRange t ≡ true) × (e.kind ≡ CLOSE-MONTH → pricesInRange (pricesOf e) ≡ true) }
+    requires admitted { (real e.date ≡ true) × (accountInRange a ≡ true) × (termsInRange t ≡ true) × (e.kind ≡ CLOSE-MONTH → pricesInRange (pricesOf e) ≡ true) }
     requires opened { a.opened ≡ true }
     ensures { result ≡ closingOf is_new t e a }
 {

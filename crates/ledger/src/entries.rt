@@ -1,6 +1,6 @@
 // An entry of 32 bytes, taken apart, and what its words and flags mean.
 ghost use Rattle.std.specs.Prelude.{◌≡◌, ◌+◌, ◌<◌, ◌≤◌, length};
-ghost use Rattle.ledger.specs.Entries.{byte_at, word_at, entry_of, termsOf, pricesOf, dayNamed, processOnly, wishes, companySells};
+ghost use Rattle.ledger.specs.Entries.{byteAt, wordAt, entryOf, termsOf, pricesOf, dayNamed, processOnly, wishes, companySells};
 
 use tariff::amounts::Dth;
 use tariff::bill::Prices;
@@ -25,7 +25,7 @@ pub struct Entry {
 
 fn byte(bytes: &[u8], at: usize) -> u64
     requires { at < length bytes.now }
-    ensures value { result ≡ byte_at bytes.now at }
+    ensures value { result ≡ byteAt bytes.now at }
     ensures bounded { result < 256 }
 {
     bytes[at] as u64
@@ -33,7 +33,7 @@ fn byte(bytes: &[u8], at: usize) -> u64
 
 fn word(bytes: &[u8], at: usize) -> u64
     requires { at + 4 ≤ length bytes.now }
-    ensures { result ≡ word_at bytes.now at }
+    ensures { result ≡ wordAt bytes.now at }
 {
     byte(bytes, at)
         + 256 * (byte(bytes, at + 1) + 256 * (byte(bytes, at + 2) + 256 * byte(bytes, at + 3)))
@@ -41,7 +41,7 @@ fn word(bytes: &[u8], at: usize) -> u64
 
 fn date(bytes: &[u8]) -> Date
     requires { length bytes.now ≡ 32 }
-    ensures { result ≡ (entry_of bytes.now).date }
+    ensures { result ≡ (entryOf bytes.now).date }
 {
     let year = byte(bytes, 4) + 256 * byte(bytes, 5);
     let month = byte(bytes, 6);
@@ -55,7 +55,7 @@ fn date(bytes: &[u8]) -> Date
 
 pub fn decode(bytes: &[u8]) -> Entry
     requires { length bytes.now ≡ 32 }
-    ensures { result ≡ entry_of bytes.now }
+    ensures { result ≡ entryOf bytes.now }
 {
     let kind = byte(bytes, 0);
     let a = byte(bytes, 1) as usize;

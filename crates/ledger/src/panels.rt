@@ -1,7 +1,7 @@
 // The panel.
 ghost use Rattle.std.specs.Prelude.{◌≡◌, true, ◌≤◌};
 ghost use Rattle.tariff.specs.Amounts.{size};
-ghost use Rattle.ledger.specs.Ranges.{in_range};
+ghost use Rattle.ledger.specs.Ranges.{inRange};
 ghost use Rattle.ledger.specs.Panel.{openBank, openBanks};
 
 use crate::state::{Account, Ledger};
@@ -16,7 +16,7 @@ pub struct Panel {
 
 // The sum of the open banks of a ledger that is in range.
 pub fn open_banks(l: Ledger) -> Units
-    requires { in_range l ≡ true }
+    requires { inRange l ≡ true }
     ensures { result.0 ≡ openBanks l.accounts }
 {
     let mut figure = Units::nothing();
@@ -29,7 +29,7 @@ pub fn open_banks(l: Ledger) -> Units
 }
 
 pub fn open_bank(a: Account) -> Units
-    ensures result_value { result.0 ≡ openBank a }
+    ensures value { result.0 ≡ openBank a }
     ensures bounded { size result ≤ size a.bank }
 {
     let bank = a.bank;

@@ -4,7 +4,7 @@ ghost use Rattle.tariff.specs.Dates.{real};
 ghost use Rattle.tariff.specs.Holidays.{heldDates};
 ghost use Rattle.tariff.specs.Terms.{termsInRange};
 ghost use Rattle.ledger.specs.Forms.{fieldNumber};
-ghost use Rattle.ledger.specs.Ranges.{accountInRange, in_range};
+ghost use Rattle.ledger.specs.Ranges.{accountInRange, inRange};
 ghost use Rattle.ledger.specs.Days.{wrongDay};
 ghost use Rattle.ledger.specs.Posting.{admission, postSeveral, changeOf};
 ghost use Rattle.ledger.specs.declared.state.Ledger as declared;
@@ -58,7 +58,7 @@ pub fn admission(
     held: Holidays,
     e: Entry,
 ) -> u64
-    ensures { (l : declared.Ledger) → in_range l ≡ fits → l.begun ≡ begun → l.touched ≡ touched → l.is_new ≡ is_new → l.date ≡ today → l.holidays ≡ held → result ≡ admission l e }
+    ensures { (l : declared.Ledger) → inRange l ≡ fits → l.begun ≡ begun → l.touched ≡ touched → l.is_new ≡ is_new → l.date ≡ today → l.holidays ≡ held → result ≡ admission l e }
 {
     let date = e.date;
     let n = number_of(is_new, e);

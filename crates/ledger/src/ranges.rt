@@ -1,6 +1,6 @@
 // The ranges of the numbers in a ledger, whoever hands it in.
 ghost use Rattle.std.specs.Prelude.{◌≡◌};
-ghost use Rattle.ledger.specs.Ranges.{totalsInRange, stepInRange, accountInRange, in_range};
+ghost use Rattle.ledger.specs.Ranges.{totalsInRange, stepInRange, accountInRange, inRange};
 
 use crate::state::{Account, Ledger};
 use tariff::bill::Totals;
@@ -48,7 +48,7 @@ pub fn account_in_range(a: Account) -> bool
 }
 
 pub fn in_range(l: Ledger) -> bool
-    ensures { result ≡ in_range l }
+    ensures { result ≡ inRange l }
 {
     let date = l.date;
     let terms = l.terms;

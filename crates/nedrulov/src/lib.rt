@@ -11,7 +11,7 @@ ghost use Rattle.ledger.specs.Posting.{posted};
 ghost use Rattle.ledger.specs.Panel.{panelOf};
 ghost use Rattle.ledger.specs.Measuring.{measurementDayIn};
 ghost use Rattle.archive.specs.Writing.{written, outputAfter};
-ghost use Rattle.archive.specs.Reading.{isNew, checked, place_of};
+ghost use Rattle.archive.specs.Reading.{isNew, checked, placeOf};
 ghost use Rattle.archive.specs.Replay.{figuresOf};
 ghost use Rattle.archive.specs.YearSheet.{sheetOf};
 ghost use Rattle.backcast.specs.Answers.{backCast};
@@ -100,7 +100,7 @@ pub extern "C" fn nedrulov_check(archive: &[u8]) -> Checked
 
 #[unsafe(no_mangle)]
 pub extern "C" fn nedrulov_place(archive: &[u8], section: usize) -> Place
-    ensures { result ≡ place_of archive.now section }
+    ensures { result ≡ placeOf archive.now section }
 {
     archive::place(archive, section)
 }

@@ -51,8 +51,8 @@ fn totals(usage: u64, sales: u64, purchases: u64, cash_ins: u64, cash_outs: u64)
 
 // The month's bill for an MDDQ of 1,500 Dth, or nothing where a rate or a price is out of range.
 fn bill(rt: &impl Print, t: Terms, p: Prices, month: Totals) -> io::Result<()>
-    requires usage_bound { (month.usage.0 ≤ 100000000) × (month.sales.0 ≤ 100000000000) × (month.purchases.0 ≤ 100000000000) }
-    requires cash_ins_bound { (month.cash_ins.0 ≤ 100000000000) × (month.cash_outs.0 ≤ 100000000000) }
+    requires usage_fits { (month.usage.0 ≤ 100000000) × (month.sales.0 ≤ 100000000000) × (month.purchases.0 ≤ 100000000000) }
+    requires cash_fits { (month.cash_ins.0 ≤ 100000000000) × (month.cash_outs.0 ≤ 100000000000) }
 {
     if !t.in_range() {
         return Ok(());
@@ -136,8 +136,8 @@ fn months(rt: &impl Print) -> io::Result<()> {
 }
 
 fn measured(rt: &impl Print, year: u64, month: u64) -> io::Result<()>
-    requires le_year { (2000 ≤ year) × (year ≤ 2099) }
-    requires le_month { (1 ≤ month) × (month ≤ 12) }
+    requires in_years { (2000 ≤ year) × (year ≤ 2099) }
+    requires in_months { (1 ≤ month) × (month ≤ 12) }
 {
     let none = Holidays::none();
     print!(rt; " {}", none.measurement_day(year, Month(month)))

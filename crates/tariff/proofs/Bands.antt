@@ -13,7 +13,7 @@ use Rattle.tariff.specs.Amounts.{above, below, less, more, percent, positivePart
 use Rattle.tariff.specs.Limits.{aboveMaximum, belowMinimum}
 use Rattle.tariff.specs.Months.{maximum, minimum}
 use Rattle.tariff.specs.Structs.{Dth, Month, Quantity, Units}
-use Rattle.tariff.proofs.Bools.{and_left}
+use Rattle.tariff.proofs.Bools.{and-left}
 use Rattle.tariff.proofs.Forfeits.{Between, left-between, not-below}
 use Rattle.tariff.proofs.Percentages.{maximum-le}
 
@@ -40,7 +40,7 @@ giver-stays low high m bcq bank q w h = left-between low high bank.0 q.0 (had-al
 rises : (low high n q p : ℕ) (t : Bool) → ltb q (suc n) ≡ t → p ≤ high → Between low high (negsuc n)
     → lt_z (pos p) (cond t (negsuc (suc n - suc q)) (pos (q - suc n))) ≡ false → Between low high (cond t (negsuc (suc n - suc q)) (pos (q - suc n)))
 rises zero high n q p true e f w h = absurd (false≢true w)
-rises (suc low) high n q p true e f w h = rw (le-leb (suc n - suc q) low (omega (arith, leb-true n low (and_left (leb n low) true w))))
+rises (suc low) high n q p true e f w h = rw (le-leb (suc n - suc q) low (omega (arith, leb-true n low (and-left (leb n low) true w))))
 rises low high n q p false e f w h = not-below low high (q - suc n) (omega (arith, ltb-false p (q - suc n) h))
 
 between-still : (low high : ℕ) (z : ℤ) (q p : ℕ) → p ≤ high → Between low high z → lt_z (pos p) (z +ℤ pos q) ≡ false → Between low high (z +ℤ pos q)

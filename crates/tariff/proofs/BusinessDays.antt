@@ -13,7 +13,7 @@ use Rattle.tariff.specs.Dates.{before, dayNumber, monthLength, real, sameDate, w
 use Rattle.tariff.specs.Holidays.{allLeaveOne, businessDay, dateOf, firstBusinessDay, heldDates, holidaysInRange, keptFrom, leavesOne, measurementDay, named, onMeasurementDay, storedDates}
 use Rattle.tariff.specs.MeasurementDays.{EveryMonth, FindsFirst, IsMeasurementDay, MonthExists, MovesOn, NextBusinessDay, OnlyOne, PlainWithoutHolidays, plainDay}
 use Rattle.tariff.specs.Structs.{Date, Holidays, Month}
-use Rattle.tariff.proofs.Bools.{and_left, and_right, or_left, or_right, parts}
+use Rattle.tariff.proofs.Bools.{and-left, and-right, or-left, or-right, parts}
 use Rattle.tariff.proofs.Calendar.{month-length-ge}
 use Rattle.tariff.proofs.HeldDates.{held-stored, kept-length, stored-count}
 use Rattle.tariff.proofs.Ranges.{date-bounds}
@@ -59,16 +59,16 @@ module _ (hs : List Date) (year : ℕ) (m : Month) where
 
   -- nothing else is the first
   only : (day n f t : ℕ) → Search works day n f → day ≤ t → t < day + n → works t ≡ true → ((k : ℕ) → day ≤ k → k < t → works k ≡ false) → f ≡ t
-  only day n f t s l r w before-t = zero_or (eqb f 0) refl
+  only day n f t s l r w before-t = zero-or (eqb f 0) refl
     where
       less-or : (f ≡ 0 → ⊥) → (u v : Bool) → ltb f t ≡ u → ltb t f ≡ v → f ≡ t
       less-or z true v p q = absurd (true≢false (sym (s.found z) ∙ before-t f (s.start z).0 (ltb-true f t p)))
       less-or z false true p q = absurd (true≢false (sym w ∙ s.isFirst t l (ltb-true t f q)))
       less-or z false false p q = omega (arith, ltb-false f t p, ltb-false t f q)
 
-      zero_or : (u : Bool) → eqb f 0 ≡ u → f ≡ t
-      zero_or true p = absurd (true≢false (sym w ∙ s.none (eqb-true f 0 p) t l r))
-      zero_or false p = less-or (eqb-false f 0 p) (ltb f t) (ltb t f) refl refl
+      zero-or : (u : Bool) → eqb f 0 ≡ u → f ≡ t
+      zero-or true p = absurd (true≢false (sym w ∙ s.none (eqb-true f 0 p) t l r))
+      zero-or false p = less-or (eqb-false f 0 p) (ltb f t) (ltb t f) refl refl
 
 -- ---- the measurement day
 
@@ -88,20 +88,20 @@ finds-first hs year m =
       none = λ z k l r. s.none z k l (omega arith);
     }
 
-pub only_one : OnlyOne
-only_one hs year m day is =
+pub only-one : OnlyOne
+only-one hs year m day is =
     sym (only hs year m 25 (monthLength year m - 24) (measurementDay hs year m) day (month-searched hs year m) is.late (let l = is.late in let r = is.within in omega arith) is.works is.isFirst)
 
 -- two lists of holidays that agree on the days from the 25th on have the same measurement day
 module _ (hs gs : List Date) (year : ℕ) (m : Month) where
-  same_first : (day n : ℕ) → ((k : ℕ) → day ≤ k → works hs year m k ≡ works gs year m k) → firstBusinessDay hs year m day n ≡ firstBusinessDay gs year m day n
+  same-first : (day n : ℕ) → ((k : ℕ) → day ≤ k → works hs year m k ≡ works gs year m k) → firstBusinessDay hs year m day n ≡ firstBusinessDay gs year m day n
   unfolding firstBusinessDay
-  same_first day zero h = refl
-  same_first day (suc n) h = rw (h day (omega arith), same_first (day + 1) n (λ k l. h k (omega arith)))
+  same-first day zero h = refl
+  same-first day (suc n) h = rw (h day (omega arith), same-first (day + 1) n (λ k l. h k (omega arith)))
 
   pub same-day : ((k : ℕ) → 25 ≤ k → works hs year m k ≡ works gs year m k) → measurementDay hs year m ≡ measurementDay gs year m
   unfolding measurementDay
-  same-day h = same_first 25 (monthLength year m - 24) h
+  same-day h = same-first 25 (monthLength year m - 24) h
 
   -- where the second knows every business day of the first, it has one if the first does
   pub more-days : ((k : ℕ) → works hs year m k ≡ true → works gs year m k ≡ true) → (measurementDay hs year m ≡ 0 → ⊥) → measurementDay gs year m ≡ 0 → ⊥
@@ -122,37 +122,37 @@ module _ (hs gs : List Date) (year : ℕ) (m : Month) where
 
 -- ---- one date more
 
-or_assoc : (a b c : Bool) → a || (b || c) ≡ (a || b) || c
-or_assoc true b c = refl
-or_assoc false b c = refl
+or-assoc : (a b c : Bool) → a || (b || c) ≡ (a || b) || c
+or-assoc true b c = refl
+or-assoc false b c = refl
 
-named_more : (hs : List Date) (d x : Date) → named (hs ++ (d ∷ [])) x ≡ named hs x || sameDate d x
+named-more : (hs : List Date) (d x : Date) → named (hs ++ (d ∷ [])) x ≡ named hs x || sameDate d x
 unfolding named
-named_more [] d x = or-false (sameDate d x)
-named_more (h ∷ hs) d x = rw (named_more hs d x) (or_assoc (sameDate h x) (named hs x) (sameDate d x))
+named-more [] d x = or-false (sameDate d x)
+named-more (h ∷ hs) d x = rw (named-more hs d x) (or-assoc (sameDate h x) (named hs x) (sameDate d x))
 
 -- any other date is a business day as it was
 other-stays : (hs : List Date) (d x : Date) → sameDate d x ≡ false → businessDay (hs ++ (d ∷ [])) x ≡ businessDay hs x
 unfolding businessDay
-other-stays hs d x e = rw (named_more hs d x, e, or-false (named hs x))
+other-stays hs d x e = rw (named-more hs d x, e, or-false (named hs x))
 
 -- one that still is was one before
 was-before : (hs : List Date) (d x : Date) → businessDay (hs ++ (d ∷ [])) x ≡ true → businessDay hs x ≡ true
 unfolding businessDay
-was-before hs d x h = go (ltb (weekday x) 5) (named hs x) (sameDate d x) (rw (named_more hs d x) at h)
+was-before hs d x h = go (ltb (weekday x) 5) (named hs x) (sameDate d x) (rw (named-more hs d x) at h)
   where
     go : (w n s : Bool) → w && not (n || s) ≡ true → w && not n ≡ true
     go true true s e = e
     go true false s e = refl
     go false n s e = e
 
-same_self : (d : Date) → sameDate d d ≡ true
+same-self : (d : Date) → sameDate d d ≡ true
 unfolding sameDate sameMonth
-same_self d = rw (eq-eqb d.year d.year refl, eq-eqb d.month.0 d.month.0 refl, eq-eqb d.day d.day refl)
+same-self d = rw (eq-eqb d.year d.year refl, eq-eqb d.month.0 d.month.0 refl, eq-eqb d.day d.day refl)
 
 itself-is-none : (hs : List Date) (d : Date) → businessDay (hs ++ (d ∷ [])) d ≡ false
 unfolding businessDay
-itself-is-none hs d = rw (named_more hs d d, same_self d, or-true (named hs d)) (and-false (ltb (weekday d) 5))
+itself-is-none hs d = rw (named-more hs d d, same-self d, or-true (named hs d)) (and-false (ltb (weekday d) 5))
 
 -- ---- dates of a month
 
@@ -163,8 +163,8 @@ module _ (year : ℕ) (m : Month) where
   in-month : (d : Date) → inMonth year m d ≡ true → (d.year ≡ year) × (d.month ≡ m)
   unfolding inMonth sameMonth
   in-month d h = (
-    eqb-true d.year year (and_left (eqb d.year year) (eqb d.month.0 m.0) h),
-    ap (λ (n : ℕ). record { 0 = n }) (eqb-true d.month.0 m.0 (and_right (eqb d.year year) (eqb d.month.0 m.0) h)),
+    eqb-true d.year year (and-left (eqb d.year year) (eqb d.month.0 m.0) h),
+    ap (λ (n : ℕ). record { 0 = n }) (eqb-true d.month.0 m.0 (and-right (eqb d.year year) (eqb d.month.0 m.0) h)),
   )
 
   another-month : (d : Date) (k : ℕ) → inMonth year m d ≡ false → sameDate d (dateOf year m k) ≡ false
@@ -188,16 +188,16 @@ module _ (year : ℕ) (m : Month) where
       go true e q f =
           let is = in-month d e in
           eqb-false (measurementDay hs d.year d.month) 0
-          (not-true (eqb (measurementDay hs d.year d.month) 0) (and_right (real d) (not (eqb (measurementDay hs d.year d.month) 0)) (and_left own (allLeaveOne hs ds) a)))
+          (not-true (eqb (measurementDay hs d.year d.month) 0) (and-right (real d) (not (eqb (measurementDay hs d.year d.month) 0)) (and-left own (allLeaveOne hs ds) a)))
           (rw (is.0, is.1) z)
-      go false e q f = f q (and_right own (allLeaveOne hs ds) a) z
+      go false e q f = f q (and-right own (allLeaveOne hs ds) a) z
 
   -- where none is held, nothing of it is named
-  none_named : (ds : List Date) → someIn ds ≡ false → (k : ℕ) → named ds (dateOf year m k) ≡ false
+  none-named : (ds : List Date) → someIn ds ≡ false → (k : ℕ) → named ds (dateOf year m k) ≡ false
   unfolding someIn named
-  none_named [] h k = refl
-  none_named (d ∷ ds) h k =
-      rw (another-month d k (or_left (inMonth year m d) (someIn ds) h)) (none_named ds (or_right (inMonth year m d) (someIn ds) h) k)
+  none-named [] h k = refl
+  none-named (d ∷ ds) h k =
+      rw (another-month d k (or-left (inMonth year m d) (someIn ds) h)) (none-named ds (or-right (inMonth year m d) (someIn ds) h) k)
 
   -- ---- no holiday
 
@@ -240,7 +240,7 @@ module _ (year : ℕ) (m : Month) where
           weekend k l r false e = let is : k ≡ 26 = omega (arith, eqb-false k 25 e) in rw is (plain-works 26 ∙ q)
 
 pub plain-without-holidays : PlainWithoutHolidays
-plain-without-holidays year m x = sym (only_one [] year m (plainDay year m) (plain-is year m x))
+plain-without-holidays year m x = sym (only-one [] year m (plainDay year m) (plain-is year m x))
 
 -- ---- in range, every month has its day
 
@@ -252,10 +252,10 @@ every-month h r year m x = (finds-first hs year m).found (go (someIn year m hs) 
     hs = heldDates h
 
     go : (t : Bool) → someIn year m (heldDates h) ≡ t → measurementDay (heldDates h) year m ≡ 0 → ⊥
-    go true e z = some-leaves year m (heldDates h) (heldDates h) e (and_right (leb h.count 16) (allLeaveOne (heldDates h) (heldDates h)) r) z
+    go true e z = some-leaves year m (heldDates h) (heldDates h) e (and-right (leb h.count 16) (allLeaveOne (heldDates h) (heldDates h)) r) z
     go false e z =
         let same : measurementDay (heldDates h) year m ≡ measurementDay [] year m =
-        same-day (heldDates h) [] year m (λ k _. unfold businessDay named in rw (none_named year m (heldDates h) e k)) in
+        same-day (heldDates h) [] year m (λ k _. unfold businessDay named in rw (none-named year m (heldDates h) e k)) in
         omega (arith, z, same, plain-without-holidays year m x, (plain-is year m x).late)
 
 -- ---- naming the measurement day
@@ -356,39 +356,39 @@ module _ (hs : List Date) (d : Date) (lv : leavesOne (hs ++ (d ∷ [])) d ≡ tr
       go true e = let is = in-month x.year x.month d e in rw (← is.0, ← is.1) lv
       go false e = rw (same-day (hs ++ (d ∷ [])) hs x.year x.month (λ k _. other-stays hs d (dateOf x.year x.month k) (another-month x.year x.month d k e))) h
 
-  all_more : (ds : List Date) → allLeaveOne hs ds ≡ true → real d ≡ true → allLeaveOne (hs ++ (d ∷ [])) (ds ++ (d ∷ [])) ≡ true
+  all-more : (ds : List Date) → allLeaveOne hs ds ≡ true → real d ≡ true → allLeaveOne (hs ++ (d ∷ [])) (ds ++ (d ∷ [])) ≡ true
   unfolding allLeaveOne
-  all_more [] a r = rw (r, lv)
-  all_more (x ∷ ds) a r =
-      let here = and_left (real x && leavesOne hs x) (allLeaveOne hs ds) a in
-      rw (and_left (real x) (leavesOne hs x) here, still-leaves x (and_right (real x) (leavesOne hs x) here))
-      (all_more ds (and_right (real x && leavesOne hs x) (allLeaveOne hs ds) a) r)
+  all-more [] a r = rw (r, lv)
+  all-more (x ∷ ds) a r =
+      let here = and-left (real x && leavesOne hs x) (allLeaveOne hs ds) a in
+      rw (and-left (real x) (leavesOne hs x) here, still-leaves x (and-right (real x) (leavesOne hs x) here))
+      (all-more ds (and-right (real x && leavesOne hs x) (allLeaveOne hs ds) a) r)
 
 pub naming-ranged : (h : Holidays) (d : Date) → holidaysInRange h ≡ true → h.count < 16 → real d ≡ true → leavesOne (heldDates h ++ (d ∷ [])) d ≡ true
     → holidaysInRange (storedDates (heldDates h ++ (d ∷ []))) ≡ true
 unfolding holidaysInRange
 naming-ranged h d r l real-d lv =
     all-ranged (heldDates h ++ (d ∷ [])) (omega (arith, length-append (heldDates h) (d ∷ []), held-few h r))
-    (all_more (heldDates h) d lv (heldDates h) (and_right (leb h.count 16) (allLeaveOne (heldDates h) (heldDates h)) r) real-d)
+    (all-more (heldDates h) d lv (heldDates h) (and-right (leb h.count 16) (allLeaveOne (heldDates h) (heldDates h)) r) real-d)
 
 module _ (first : Date) where
   kept-named : (hs : List Date) (x : Date) → named hs x ≡ false → named (keptFrom first hs) x ≡ false
   unfolding keptFrom named
   kept-named [] x h = h
-  kept-named (y ∷ hs) x h = go (before y first) (kept-named hs x (or_right (sameDate y x) (named hs x) h))
+  kept-named (y ∷ hs) x h = go (before y first) (kept-named hs x (or-right (sameDate y x) (named hs x) h))
     where
       go : (t : Bool) → named (keptFrom first hs) x ≡ false → named (cond t (keptFrom first hs) (y ∷ keptFrom first hs)) x ≡ false
       go true e = e
-      go false e = rw (or_left (sameDate y x) (named hs x) h) e
+      go false e = rw (or-left (sameDate y x) (named hs x) h) e
 
   kept-works : (hs : List Date) (x : Date) → businessDay hs x ≡ true → businessDay (keptFrom first hs) x ≡ true
   unfolding businessDay
   kept-works hs x h =
-      rw (and_left (ltb (weekday x) 5) (not (named hs x)) h, kept-named hs x (not-true (named hs x) (and_right (ltb (weekday x) 5) (not (named hs x)) h)))
+      rw (and-left (ltb (weekday x) 5) (not (named hs x)) h, kept-named hs x (not-true (named hs x) (and-right (ltb (weekday x) 5) (not (named hs x)) h)))
 
-  kept_leaves : (hs : List Date) (x : Date) → leavesOne hs x ≡ true → leavesOne (keptFrom first hs) x ≡ true
+  kept-leaves : (hs : List Date) (x : Date) → leavesOne hs x ≡ true → leavesOne (keptFrom first hs) x ≡ true
   unfolding leavesOne
-  kept_leaves hs x h =
+  kept-leaves hs x h =
       rw
       (ne_eqb (measurementDay (keptFrom first hs) x.year x.month) 0
       (more-days hs (keptFrom first hs) x.year x.month (λ k. kept-works hs (dateOf x.year x.month k)) (eqb-false (measurementDay hs x.year x.month) 0 (not-true (eqb (measurementDay hs x.year x.month) 0) h))))
@@ -397,16 +397,16 @@ module _ (first : Date) where
   unfolding allLeaveOne keptFrom
   all-kept hs [] a = refl
   all-kept hs (x ∷ ds) a =
-      go (before x first) (and_left (real x && leavesOne hs x) (allLeaveOne hs ds) a) (all-kept hs ds (and_right (real x && leavesOne hs x) (allLeaveOne hs ds) a))
+      go (before x first) (and-left (real x && leavesOne hs x) (allLeaveOne hs ds) a) (all-kept hs ds (and-right (real x && leavesOne hs x) (allLeaveOne hs ds) a))
     where
       go : (t : Bool) → real x && leavesOne hs x ≡ true → allLeaveOne (keptFrom first hs) (keptFrom first ds) ≡ true
           → allLeaveOne (keptFrom first hs) (cond t (keptFrom first ds) (x ∷ keptFrom first ds)) ≡ true
       go true o e = e
-      go false o e = rw (and_left (real x) (leavesOne hs x) o, kept_leaves hs x (and_right (real x) (leavesOne hs x) o)) e
+      go false o e = rw (and-left (real x) (leavesOne hs x) o, kept-leaves hs x (and-right (real x) (leavesOne hs x) o)) e
 
 pub kept-ranged : (h : Holidays) (first : Date) → holidaysInRange h ≡ true → holidaysInRange (storedDates (keptFrom first (heldDates h))) ≡ true
 unfolding holidaysInRange
 kept-ranged h first r =
     all-ranged (keptFrom first (heldDates h))
-    (omega (arith, kept-length first (heldDates h), held-few h r, leb-true h.count 16 (and_left (leb h.count 16) (allLeaveOne (heldDates h) (heldDates h)) r)))
-    (all-kept first (heldDates h) (heldDates h) (and_right (leb h.count 16) (allLeaveOne (heldDates h) (heldDates h)) r))
+    (omega (arith, kept-length first (heldDates h), held-few h r, leb-true h.count 16 (and-left (leb h.count 16) (allLeaveOne (heldDates h) (heldDates h)) r)))
+    (all-kept first (heldDates h) (heldDates h) (and-right (leb h.count 16) (allLeaveOne (heldDates h) (heldDates h)) r))

@@ -9,7 +9,7 @@ use lib.ListN.{get_or, take}
 use borrow.Author.Tests.{eqb-true, leb-true, ne_eqb, ltb-true}
 use Rattle.tariff.specs.Dates.{leap, divides, lengths, monthLength, total}
 use Rattle.tariff.specs.Structs.{Month}
-use Rattle.tariff.proofs.Tables.{all_below, at_each, each, entry-le}
+use Rattle.tariff.proofs.Tables.{allBelow, at-each, each, entry-le}
 use Rattle.tariff.proofs.Results.{choice-le}
 
 -- the lengths of the months, by whether the year is a leap year
@@ -26,17 +26,17 @@ alike : Bool → Bool → Bool
 alike true b = b
 alike false b = not b
 
-alike_is : (a b : Bool) → alike a b ≡ true → a ≡ b
+alike-is : (a b : Bool) → alike a b ≡ true → a ≡ b
 unfolding alike
-alike_is true true h = refl
-alike_is true false h = sym h
-alike_is false true h = h
-alike_is false false h = refl
+alike-is true true h = refl
+alike-is true false h = sym h
+alike-is false true h = h
+alike-is false false h = refl
 
 fourth : ℕ → Bool
 fourth i = alike (leap (2000 + i)) (eqb ((2000 + i) % 4) 0)
 
-fourth-each : all_below fourth 100 ≡ true
+fourth-each : allBelow fourth 100 ≡ true
 unfolding fourth alike leap divides
 fourth-each = refl
 
@@ -44,7 +44,7 @@ pub every-fourth : (y : ℕ) → 2000 ≤ y → y ≤ 2099 → leap y ≡ eqb (y
 unfolding fourth
 every-fourth y h l =
     let back : 2000 + (y - 2000) ≡ y = omega arith in
-    rw back at (alike_is (leap (2000 + (y - 2000))) (eqb ((2000 + (y - 2000)) % 4) 0) (at_each fourth 100 fourth-each (y - 2000) (omega arith)))
+    rw back at (alike-is (leap (2000 + (y - 2000))) (eqb ((2000 + (y - 2000)) % 4) 0) (at-each fourth 100 fourth-each (y - 2000) (omega arith)))
 
 -- ---- a month's length: 31 and 30 by turns, anew from August
 
@@ -60,7 +60,7 @@ pub length-by-turns : (year m : ℕ) → 1 ≤ m → m ≤ 12 → (m ≡ 2 → �
 unfolding turns
 length-by-turns year m l h n =
     eqb-true (30 + (m + m / 8) % 2) (get_or (months false) (m - 1) 0)
-    (rw (ne_eqb m 0 (λ z. omega arith), ne_eqb m 2 n) at (at_each turns 13 refl m (omega arith)))
+    (rw (ne_eqb m 0 (λ z. omega arith), ne_eqb m 2 n) at (at-each turns 13 refl m (omega arith)))
     ∙ sym (other (leap year) (m - 1) (λ z. n (omega arith)))
     ∙ ap (λ (xs : List ℕ). get_or xs (m - 1) 0) (sym (lengths-are year))
 
@@ -69,7 +69,7 @@ length-by-turns year m l h n =
 before : Bool → ℕ → Bool
 before b m = eqb ((367 * m - 362) / 12 - cond (ltb 2 m) (cond b 1 2) 0) (total (take (m - 1) (months b)))
 
-before-each : (b : Bool) → all_below (before b) 13 ≡ true
+before-each : (b : Bool) → allBelow (before b) 13 ≡ true
 unfolding before total
 before-each true = refl
 before-each false = refl
@@ -77,7 +77,7 @@ before-each false = refl
 pub days-before : (year m : ℕ) → m ≤ 12 → (367 * m - 362) / 12 - cond (ltb 2 m) (cond (leap year) 1 2) 0 ≡ total (take (m - 1) (lengths year))
 unfolding before
 days-before year m h =
-    eqb-true _ _ (at_each (before (leap year)) 13 (before-each (leap year)) m (omega arith))
+    eqb-true _ _ (at-each (before (leap year)) 13 (before-each (leap year)) m (omega arith))
     ∙ ap (λ (xs : List ℕ). total (take (m - 1) xs)) (sym (lengths-are year))
 
 -- February lacks one or two days, which are never more than the days before a month behind it
@@ -103,11 +103,11 @@ month-length-le year m = rw (lengths-are year) (entry-le 31 (months (leap year))
 shortest : Bool → ℕ → Bool
 shortest b i = leb 28 (get_or (months b) i 0)
 
-shortest-each : (b : Bool) → all_below (shortest b) 12 ≡ true
+shortest-each : (b : Bool) → allBelow (shortest b) 12 ≡ true
 unfolding shortest
 shortest-each true = refl
 shortest-each false = refl
 
 pub month-length-ge : (year : ℕ) (m : Month) → 1 ≤ m.0 → m.0 ≤ 12 → 28 ≤ monthLength year m
 unfolding monthLength shortest
-month-length-ge year m l h = rw (lengths-are year) (leb-true 28 _ (at_each (shortest (leap year)) 12 (shortest-each (leap year)) (m.0 - 1) (omega arith)))
+month-length-ge year m l h = rw (lengths-are year) (leb-true 28 _ (at-each (shortest (leap year)) 12 (shortest-each (leap year)) (m.0 - 1) (omega arith)))

@@ -11,17 +11,17 @@ use Rattle.tariff.specs.Amounts.{inward, less, percent, positivePart, within}
 use Rattle.tariff.specs.Closing.{excessOver, forfeitOf, forfeitUnder}
 use Rattle.tariff.specs.Months.{january, march, sameMonth}
 use Rattle.tariff.specs.Structs.{Dth, Month, Quantity, Units}
-use Rattle.tariff.proofs.Bools.{and_right}
+use Rattle.tariff.proofs.Bools.{and-right}
 use Rattle.tariff.proofs.Results.{choice-le, part-le}
-use Rattle.tariff.proofs.Sizes.{rest_le}
+use Rattle.tariff.proofs.Sizes.{rest-le}
 
 -- ---- how much it is at most
 
 above-part : (z : ℤ) (q : ℕ) → positivePart (z -ℤ pos q) ≤ positivePart z
 unfolding positivePart
 above-part (pos n) zero = omega arith
-above-part (pos n) (suc q) = rest_le n (suc q) (ltb n (suc q)) refl
-above-part (negsuc n) zero = rest_le 0 (suc n) (ltb 0 (suc n)) refl
+above-part (pos n) (suc q) = rest-le n (suc q) (ltb n (suc q)) refl
+above-part (negsuc n) zero = rest-le 0 (suc n) (ltb 0 (suc n)) refl
 above-part (negsuc n) (suc q) = omega arith
 
 excess-part : (bank : Units) (q : Quantity) → (excessOver bank q).0 ≤ positivePart bank.0
@@ -47,7 +47,7 @@ pub left-between : (low high : ℕ) (z : ℤ) (f : ℕ) → f ≤ positivePart z
 unfolding positivePart
 left-between low high z zero p h = rw (+ℤ_idr z) h
 left-between low high (pos n) (suc q) p h =
-    rw (le-ltb n (suc q) p) (not-below low high (n - suc q) (omega (arith, leb-true n high (and_right (le_z (neg_ℤ (pos low)) (pos n)) (leb n high) h))))
+    rw (le-ltb n (suc q) p) (not-below low high (n - suc q) (omega (arith, leb-true n high (and-right (le_z (neg_ℤ (pos low)) (pos n)) (leb n high) h))))
 left-between low high (negsuc n) (suc q) p h = absurd (omega arith)
 
 pub forfeit-stays : (low high : ℕ) (new : Bool) (confiscated : Quantity) (m : Month) (bcq : Dth) (bank : Units) → within low high bank ≡ true

@@ -34,28 +34,28 @@ module _ (h : Holidays) (n i : ℕ) (w : Walked h n i) where
   pub held-length : length (heldDates h) ≡ n
   held-length = ap length held-is ∙ length-take-le n h.dates (omega (arith, w.places, w.sized))
 
-  pub held_at : (d : Date) → i < n → get_or (heldDates h) i d ≡ get_or h.dates i d
-  held_at d l = ap (λ (xs : List Date). get_or xs i d) held-is ∙ get_or-take n h.dates i d l
+  pub held-at : (d : Date) → i < n → get_or (heldDates h) i d ≡ get_or h.dates i d
+  held-at d l = ap (λ (xs : List Date). get_or xs i d) held-is ∙ get_or-take n h.dates i d l
 
-  pub walked_next : (next : ℕ) → i < n → next ≡ i + 1 → Walked h n next
-  walked_next next l e = record { sized = w.sized; places = w.places; within = omega arith }
+  pub walked-next : (next : ℕ) → i < n → next ≡ i + 1 → Walked h n next
+  walked-next next l e = record { sized = w.sized; places = w.places; within = omega arith }
 
   -- the date in hand and those to come
   pub to-come : (d : Date) → i < n → drop i (heldDates h) ≡ get_or h.dates i d ∷ drop (i + 1) (heldDates h)
-  to-come d l = rw add-one (drop-cons (heldDates h) i d (omega (arith, held-length)) ∙ ap (λ (x : Date). x ∷ drop (suc i) (heldDates h)) (held_at d l))
+  to-come d l = rw add-one (drop-cons (heldDates h) i d (omega (arith, held-length)) ∙ ap (λ (x : Date). x ∷ drop (suc i) (heldDates h)) (held-at d l))
 
   pub none-to-come : n ≤ i → drop i (heldDates h) ≡ []
   none-to-come l = drop_of_length-le (heldDates h) {i = i} (omega (arith, held-length))
 
   -- those passed, and the date in hand
   pub passed-next : (d : Date) → i < n → take (i + 1) (heldDates h) ≡ take i (heldDates h) ++ (get_or h.dates i d ∷ [])
-  passed-next d l = rw add-one (take-suc (heldDates h) i d (omega (arith, held-length)) ∙ ap (λ (x : Date). take i (heldDates h) ++ (x ∷ [])) (held_at d l))
+  passed-next d l = rw add-one (take-suc (heldDates h) i d (omega (arith, held-length)) ∙ ap (λ (x : Date). take i (heldDates h) ++ (x ∷ [])) (held-at d l))
 
   pub all-passed : n ≤ i → take i (heldDates h) ≡ heldDates h
   all-passed l = take_all i (heldDates h) (omega (arith, held-length))
 
-  pub passed_length : length (take i (heldDates h)) ≡ i
-  passed_length = length-take-le i (heldDates h) (omega (arith, held-length, w.within))
+  pub passed-length : length (take i (heldDates h)) ≡ i
+  passed-length = length-take-le i (heldDates h) (omega (arith, held-length, w.within))
 
 -- ---- a list stored anew
 
@@ -71,10 +71,10 @@ length-snoc : (hs : List Date) (d : Date) → length (hs ++ (d ∷ [])) ≡ leng
 length-snoc hs d = length-append hs (d ∷ [])
 
 -- the first free place
-pub stored_next : (h : Holidays) (d : Date) (hs : List Date) → h.count < 16 → h ≡ storedDates hs
+pub stored-next : (h : Holidays) (d : Date) (hs : List Date) → h.count < 16 → h ≡ storedDates hs
     → record { count = h.count + 1; dates = set h.dates h.count d } ≡ storedDates (hs ++ (d ∷ []))
 unfolding storedDates
-stored_next h d hs l e =
+stored-next h d hs l e =
     let size : h.count ≡ length hs = ap (λ (x : Holidays). x.count) e in
     let free : 16 - length hs ≡ suc (15 - length hs) = omega arith in
     let left : 16 - (length hs + 1) ≡ 15 - length hs = omega arith in
@@ -82,10 +82,10 @@ stored_next h d hs l e =
 
 -- ---- those that are kept
 
-pub kept_append : (first d : Date) (hs : List Date) → keptFrom first (hs ++ (d ∷ [])) ≡ keptFrom first hs ++ keptFrom first (d ∷ [])
+pub kept-append : (first d : Date) (hs : List Date) → keptFrom first (hs ++ (d ∷ [])) ≡ keptFrom first hs ++ keptFrom first (d ∷ [])
 unfolding keptFrom
-kept_append first d [] = refl
-kept_append first d (h ∷ hs) = go (before h first) (kept_append first d hs)
+kept-append first d [] = refl
+kept-append first d (h ∷ hs) = go (before h first) (kept-append first d hs)
   where
     go : (t : Bool) → keptFrom first (hs ++ (d ∷ [])) ≡ keptFrom first hs ++ keptFrom first (d ∷ [])
         → cond t (keptFrom first (hs ++ (d ∷ []))) (h ∷ keptFrom first (hs ++ (d ∷ []))) ≡ cond t (keptFrom first hs) (h ∷ keptFrom first hs) ++ keptFrom first (d ∷ [])
@@ -108,9 +108,9 @@ kept-members first (h ∷ hs) x = go (before h first) (sameDate h x) refl refl (
         let stays : before x first ≡ false = ap (λ (z : Date). before z first) (sym (same-date-is h x q)) ∙ p in rw (q, stays)
     go false false p q e = rw q e
 
-pub none_from : (first : Date) → keptFrom first [] ≡ []
+pub none-from : (first : Date) → keptFrom first [] ≡ []
 unfolding keptFrom
-none_from first = refl
+none-from first = refl
 
 pub kept-length : (first : Date) (hs : List Date) → length (keptFrom first hs) ≤ length hs
 unfolding keptFrom

@@ -13,7 +13,7 @@ use Rattle.tariff.specs.Months.{sameMonth}
 use Rattle.tariff.specs.Structs.{Date, Mills, Quantity, Step, Units}
 use Rattle.tariff.specs.Closing.{forfeitUnder}
 use Rattle.tariff.specs.Steps.{settledStep}
-use Rattle.tariff.proofs.Bools.{and_left, and_right}
+use Rattle.tariff.proofs.Bools.{and-left, and-right}
 use Rattle.tariff.proofs.Signed.{size-between}
 
 -- ---- numbers
@@ -105,10 +105,10 @@ same-date d = rw (eq-eqb d.year d.year refl, eq-eqb d.month.0 d.month.0 refl, eq
 pub same-date-is : (a b : Date) → sameDate a b ≡ true → a ≡ b
 unfolding sameDate sameMonth
 same-date-is a b h =
-    let both = and_left (eqb a.year b.year && eqb a.month.0 b.month.0) (eqb a.day b.day) h in
-    let year = eqb-true a.year b.year (and_left (eqb a.year b.year) (eqb a.month.0 b.month.0) both) in
-    let month = eqb-true a.month.0 b.month.0 (and_right (eqb a.year b.year) (eqb a.month.0 b.month.0) both) in
-    let day = eqb-true a.day b.day (and_right (eqb a.year b.year && eqb a.month.0 b.month.0) (eqb a.day b.day) h) in
+    let both = and-left (eqb a.year b.year && eqb a.month.0 b.month.0) (eqb a.day b.day) h in
+    let year = eqb-true a.year b.year (and-left (eqb a.year b.year) (eqb a.month.0 b.month.0) both) in
+    let month = eqb-true a.month.0 b.month.0 (and-right (eqb a.year b.year) (eqb a.month.0 b.month.0) both) in
+    let day = eqb-true a.day b.day (and-right (eqb a.year b.year && eqb a.month.0 b.month.0) (eqb a.day b.day) h) in
     λ i. record { year = year i; month = record { 0 = month i }; day = day i }
 
 -- ---- steps

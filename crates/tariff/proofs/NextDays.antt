@@ -11,7 +11,7 @@ use Rattle.tariff.specs.Dates.{leap, lengths, monthLength, real, isOn, lastOfMon
 use Rattle.tariff.specs.Calendar.{written, RightDays}
 use Rattle.tariff.specs.Structs.{Date, Month}
 use Rattle.tariff.proofs.Bools.{and-fails}
-use Rattle.tariff.proofs.Tables.{all_below, at_each}
+use Rattle.tariff.proofs.Tables.{allBelow, at-each}
 use Rattle.tariff.proofs.Ranges.{date-bounds}
 use Rattle.tariff.proofs.Calendar.{months, lengths-are, every-fourth, month-length-ge, month-length-le}
 
@@ -27,7 +27,7 @@ real-from y m k h1 h2 h3 h4 h5 h6 = rw (le-leb 1 m h3, le-leb m 12 h4, le-leb 20
 grows : Bool → ℕ → Bool
 grows b m = cond (eqb m 0) true (eqb (total (take m (months b))) (total (take (m - 1) (months b)) + get_or (months b) (m - 1) 0))
 
-grows-each : (b : Bool) → all_below (grows b) 13 ≡ true
+grows-each : (b : Bool) → allBelow (grows b) 13 ≡ true
 unfolding grows total
 grows-each true = refl
 grows-each false = refl
@@ -36,7 +36,7 @@ before-next : (y m : ℕ) → 1 ≤ m → m ≤ 12 → total (take m (lengths y)
 unfolding grows
 before-next y m l h =
     rw (lengths-are y)
-    (eqb-true _ _ (rw (ne_eqb m 0 (λ z. omega arith)) at (at_each (grows (leap y)) 13 (grows-each (leap y)) m (omega arith))))
+    (eqb-true _ _ (rw (ne_eqb m 0 (λ z. omega arith)) at (at-each (grows (leap y)) 13 (grows-each (leap y)) m (omega arith))))
 
 -- ---- December has 31 days
 
@@ -44,9 +44,9 @@ december-length : (y : ℕ) (m : Month) → m.0 ≡ 12 → monthLength y m ≡ 3
 unfolding monthLength
 december-length y m h = rw (h, lengths-are y)
 
-same_length : (y z : ℕ) (m n : Month) → y ≡ z → m.0 ≡ n.0 → monthLength y m ≡ monthLength z n
+same-length : (y z : ℕ) (m n : Month) → y ≡ z → m.0 ≡ n.0 → monthLength y m ≡ monthLength z n
 unfolding monthLength
-same_length y z m n p q = rw (p, q)
+same-length y z m n p q = rw (p, q)
 
 -- ---- a year more
 
@@ -115,7 +115,7 @@ module _ (d : Date) (r : real d ≡ true) where
           → 10000 * y + 100 * (m + 1) + 1 ≤ 10000 * f.year + 100 * f.month.0 + f.day
       no-later f q l true true p s =
           let b = date-bounds f q in
-          omega (arith, eqb-true f.year y p, eqb-true f.month.0 m s, same_length f.year y f.month d.month (eqb-true f.year y p) (eqb-true f.month.0 m s))
+          omega (arith, eqb-true f.year y p, eqb-true f.month.0 m s, same-length f.year y f.month d.month (eqb-true f.year y p) (eqb-true f.month.0 m s))
       no-later f q l true false p s =
           let b = date-bounds f q in
           omega (arith, eqb-true f.year y p, eqb-false f.month.0 m s, month-length-le f.year f.month, date-bounds d r)

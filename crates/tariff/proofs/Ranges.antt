@@ -62,17 +62,17 @@ date-bounds d h =
     }
 
 -- a quotient of a product: a × b / c ≤ a × n where b ≤ n × c
-quotient_le : (a b c n : ℕ) → b ≤ n * c → a * b / c ≤ a * n
-quotient_le a b c n h = div-le_of_le-mul c (rw (← mul_comm (a * n) c, mul_assoc a n c) (mul-le-mul_left a h))
+quotient-le : (a b c n : ℕ) → b ≤ n * c → a * b / c ≤ a * n
+quotient-le a b c n h = div-le_of_le-mul c (rw (← mul_comm (a * n) c, mul_assoc a n c) (mul-le-mul_left a h))
 
 pub mddq-le : (t : Terms) (k : ℕ) → termsInRange t ≡ true → k ≤ 100 → (mddqOf t k).0 ≤ 300000
 unfolding mddqOf
 mddq-le t k h l =
     let b = terms-bounds t h in
-    omega (arith, quotient_le (3000 * k) t.no_notice.0 t.design_day.0 1 (omega arith))
+    omega (arith, quotient-le (3000 * k) t.no_notice.0 t.design_day.0 1 (omega arith))
 
 pub bcq-le : (t : Terms) (mddq : Dth) → termsInRange t ≡ true → mddq.0 ≤ 300000 → (bcqOf t mddq).0 ≤ 30000000
 unfolding bcqOf
 bcq-le t mddq h l =
     let b = terms-bounds t h in
-    omega (arith, quotient_le mddq.0 t.storage.0 t.no_notice.0 100 (omega arith))
+    omega (arith, quotient-le mddq.0 t.storage.0 t.no_notice.0 100 (omega arith))

@@ -8,7 +8,7 @@ use lib.Dec.{leb}
 use lib.IntN.{pos, ◌-ℤ◌, ◌*ℤ◌, nat_abs}
 use Rattle.tariff.specs.Amounts.{size, opposite, percent, below}
 use Rattle.tariff.specs.Months.{sameMonth, january, march, november, december, winter, withdrawalMaximum}
-use Rattle.tariff.specs.Delivery.{retained, daysOfInjection, share_of}
+use Rattle.tariff.specs.Delivery.{retained, daysOfInjection, shareOf}
 use Rattle.tariff.specs.Closing.{carryOf, forfeitOf, forfeitUnder, withdrawalLimit}
 use Rattle.tariff.specs.Bill.{pricesInRange, cashInCharge, cashOutCredit, atInventoryCost}
 use Rattle.tariff.specs.Structs.{Dth, Month, Prices, Quantity, Units}
@@ -32,8 +32,8 @@ pub days-le : (m : Month) → daysOfInjection m ≤ 30
 unfolding daysOfInjection
 days-le m = choice-le 30 (sameMonth m november || sameMonth m december) 30 25 (omega arith) (omega arith)
 
-pub share-le : (bank : Units) (bcq : Dth) (backCast : Quantity) (mdq : Dth) → share_of bank bcq backCast mdq ≤ 100
-unfolding share_of
+pub share-le : (bank : Units) (bcq : Dth) (backCast : Quantity) (mdq : Dth) → shareOf bank bcq backCast mdq ≤ 100
+unfolding shareOf
 share-le bank bcq backCast mdq =
     choice-le 100 (not (below bank (percent 30 bcq)) || leb (100 * mdq.0) backCast.0) 100 _ (omega arith)
     (choice-le 100 (not (below bank (percent 20 bcq))) 80 _ (omega arith)

@@ -13,7 +13,7 @@ use mir.Val.{SFits, to_z, of_z}
 use mir.Facts.{to_z-of_z}
 use borrow.Author.Tests.{leb-true, ltb-true}
 use Rattle.tariff.specs.Amounts.{positivePart}
-use Rattle.tariff.proofs.Bools.{and_left, and_right}
+use Rattle.tariff.proofs.Bools.{and-left, and-right}
 
 -- ---- sizes
 
@@ -61,7 +61,7 @@ size-naturals a (suc b) = sub-max a (suc b) (ltb a (suc b)) refl
 
 -- a number from −low to high
 pub size-between : (low high : ℕ) (z : ℤ) → le_z (neg_ℤ (pos low)) z && le_z z (pos high) ≡ true → low ≤ high → nat_abs z ≤ high
-size-between low high z h l = go low high z (and_left (le_z (neg_ℤ (pos low)) z) _ h) (and_right (le_z (neg_ℤ (pos low)) z) _ h) l
+size-between low high z h l = go low high z (and-left (le_z (neg_ℤ (pos low)) z) _ h) (and-right (le_z (neg_ℤ (pos low)) z) _ h) l
   where
     go : (low high : ℕ) (z : ℤ) → le_z (neg_ℤ (pos low)) z ≡ true → le_z z (pos high) ≡ true → low ≤ high → nat_abs z ≤ high
     go low high (pos n) h k l = leb-true n high k
@@ -77,8 +77,8 @@ module _ (a b : ℤ) (h : nat_abs a + nat_abs b < 2 ^ 63) where
   sum-reads : to_z w64 (of_z w64 a) +ℤ to_z w64 (of_z w64 b) ≡ a +ℤ b
   sum-reads = rw (read a (omega arith), read b (omega arith))
 
-  pub sum_fits : SFits w64 (to_z w64 (of_z w64 a) +ℤ to_z w64 (of_z w64 b))
-  sum_fits = rw sum-reads (fits (a +ℤ b) (omega (arith, size-sum a b)))
+  pub sum-fits : SFits w64 (to_z w64 (of_z w64 a) +ℤ to_z w64 (of_z w64 b))
+  sum-fits = rw sum-reads (fits (a +ℤ b) (omega (arith, size-sum a b)))
 
   pub sum-read : to_z w64 (of_z w64 (to_z w64 (of_z w64 a) +ℤ to_z w64 (of_z w64 b))) ≡ a +ℤ b
   sum-read = rw sum-reads (read (a +ℤ b) (omega (arith, size-sum a b)))
@@ -123,14 +123,14 @@ unfolding positivePart
 positive-all (pos n) h = refl
 positive-all (negsuc n) h = absurd (subst T h tt)
 
-pub not_negative : (z : ℤ) → lt_z z (pos 0) ≡ false → T (non_neg z)
-not_negative (pos n) h = tt
-not_negative (negsuc n) h = absurd (subst T h tt)
+pub not-negative : (z : ℤ) → lt_z z (pos 0) ≡ false → T (non_neg z)
+not-negative (pos n) h = tt
+not-negative (negsuc n) h = absurd (subst T h tt)
 
 -- what the machine makes of (d − b) × k / 10,000, step by step
 module _ (d b k : ℕ) (hd : d ≤ 1000000000) (hb : b ≤ 1000000000) (hk : k ≤ 10000) where
-  product_is : to_z w64 (of_z w64 (to_z w64 d -ℤ to_z w64 b)) *ℤ to_z w64 k ≡ (pos d -ℤ pos b) *ℤ pos k
-  product_is = rw (difference-read (pos d) (pos b) (omega arith), read-nat k (omega arith))
+  product-is : to_z w64 (of_z w64 (to_z w64 d -ℤ to_z w64 b)) *ℤ to_z w64 k ≡ (pos d -ℤ pos b) *ℤ pos k
+  product-is = rw (difference-read (pos d) (pos b) (omega arith), read-nat k (omega arith))
 
   product-size : nat_abs ((pos d -ℤ pos b) *ℤ pos k) < 2 ^ 62
   product-size =
@@ -138,47 +138,47 @@ module _ (d b k : ℕ) (hd : d ≤ 1000000000) (hb : b ≤ 1000000000) (hk : k �
       omega (arith, size-product (pos d -ℤ pos b) (pos k), mul-le-mul far hk)
 
   pub product-fits : SFits w64 (to_z w64 (of_z w64 (to_z w64 d -ℤ to_z w64 b)) *ℤ to_z w64 k)
-  product-fits = rw product_is (fits _ (omega (arith, product-size)))
+  product-fits = rw product-is (fits _ (omega (arith, product-size)))
 
-  quotient_is : quot_z (to_z w64 (of_z w64 (to_z w64 (of_z w64 (to_z w64 d -ℤ to_z w64 b)) *ℤ to_z w64 k))) (pos 10000) ≡ quot_z ((pos d -ℤ pos b) *ℤ pos k) (pos 10000)
-  quotient_is = rw (product_is, read ((pos d -ℤ pos b) *ℤ pos k) (omega (arith, product-size)))
+  quotient-is : quot_z (to_z w64 (of_z w64 (to_z w64 (of_z w64 (to_z w64 d -ℤ to_z w64 b)) *ℤ to_z w64 k))) (pos 10000) ≡ quot_z ((pos d -ℤ pos b) *ℤ pos k) (pos 10000)
+  quotient-is = rw (product-is, read ((pos d -ℤ pos b) *ℤ pos k) (omega (arith, product-size)))
 
   quotient-size : nat_abs (quot_z ((pos d -ℤ pos b) *ℤ pos k) (pos 10000)) < 2 ^ 63
   quotient-size = omega (arith, product-size, size-quotient-is ((pos d -ℤ pos b) *ℤ pos k) 10000)
 
-  pub quotient_fits : SFits w64 (quot_z (to_z w64 (of_z w64 (to_z w64 (of_z w64 (to_z w64 d -ℤ to_z w64 b)) *ℤ to_z w64 k))) (pos 10000))
-  quotient_fits = rw quotient_is (fits _ quotient-size)
+  pub quotient-fits : SFits w64 (quot_z (to_z w64 (of_z w64 (to_z w64 (of_z w64 (to_z w64 d -ℤ to_z w64 b)) *ℤ to_z w64 k))) (pos 10000))
+  quotient-fits = rw quotient-is (fits _ quotient-size)
 
   pub quotient-read : to_z w64 (of_z w64 (quot_z (to_z w64 (of_z w64 (to_z w64 (of_z w64 (to_z w64 d -ℤ to_z w64 b)) *ℤ to_z w64 k))) (pos 10000))) ≡ quot_z ((pos d -ℤ pos b) *ℤ pos k) (pos 10000)
-  quotient-read = rw quotient_is (read _ quotient-size)
+  quotient-read = rw quotient-is (read _ quotient-size)
 
 -- the opposite of a number below zero, by way of the next one up, which always has one
 module _ (z : ℤ) (f : SFits w64 z) (h : lt_z z (pos 0) ≡ true) where
-  up_is : to_z w64 (of_z w64 z) +ℤ pos 1 ≡ neg_ℤ (pos (mag z))
-  up_is = rw (to_z-of_z f) (+ℤ_one z ∙ go z h)
+  up-is : to_z w64 (of_z w64 z) +ℤ pos 1 ≡ neg_ℤ (pos (mag z))
+  up-is = rw (to_z-of_z f) (+ℤ_one z ∙ go z h)
     where
-      less_one : (n : ℕ) → suc_ℤ (negsuc n) ≡ neg_ℤ (pos n)
-      less_one zero = refl
-      less_one (suc n) = refl
+      less-one : (n : ℕ) → suc_ℤ (negsuc n) ≡ neg_ℤ (pos n)
+      less-one zero = refl
+      less-one (suc n) = refl
 
       go : (z : ℤ) → lt_z z (pos 0) ≡ true → suc_ℤ z ≡ neg_ℤ (pos (mag z))
       go (pos n) h = absurd (omega (arith, ltb-true n 0 h))
-      go (negsuc n) h = less_one n
+      go (negsuc n) h = less-one n
 
   small : nat_abs (neg_ℤ (pos (mag z))) < 2 ^ 63
   small = omega (arith, size-neg (pos (mag z)), f.sfits)
 
-  pub up_fits : SFits w64 (to_z w64 (of_z w64 z) +ℤ pos 1)
-  up_fits = rw up_is (fits (neg_ℤ (pos (mag z))) small)
+  pub up-fits : SFits w64 (to_z w64 (of_z w64 z) +ℤ pos 1)
+  up-fits = rw up-is (fits (neg_ℤ (pos (mag z))) small)
 
-  back_is : pos 0 -ℤ to_z w64 (of_z w64 (to_z w64 (of_z w64 z) +ℤ pos 1)) ≡ pos (mag z)
-  back_is = rw (up_is, read (neg_ℤ (pos (mag z))) small) (+ℤ_idl (neg_ℤ (neg_ℤ (pos (mag z)))) ∙ neg_ℤ-neg_ℤ (pos (mag z)))
+  back-is : pos 0 -ℤ to_z w64 (of_z w64 (to_z w64 (of_z w64 z) +ℤ pos 1)) ≡ pos (mag z)
+  back-is = rw (up-is, read (neg_ℤ (pos (mag z))) small) (+ℤ_idl (neg_ℤ (neg_ℤ (pos (mag z)))) ∙ neg_ℤ-neg_ℤ (pos (mag z)))
 
-  pub back_fits : SFits w64 (pos 0 -ℤ to_z w64 (of_z w64 (to_z w64 (of_z w64 z) +ℤ pos 1)))
-  back_fits = rw back_is (fits (pos (mag z)) f.sfits)
+  pub back-fits : SFits w64 (pos 0 -ℤ to_z w64 (of_z w64 (to_z w64 (of_z w64 z) +ℤ pos 1)))
+  back-fits = rw back-is (fits (pos (mag z)) f.sfits)
 
-  pub back_read : to_z w64 (of_z w64 (pos 0 -ℤ to_z w64 (of_z w64 (to_z w64 (of_z w64 z) +ℤ pos 1)))) ≡ pos (mag z)
-  back_read = rw back_is (read (pos (mag z)) f.sfits)
+  pub back-read : to_z w64 (of_z w64 (pos 0 -ℤ to_z w64 (of_z w64 (to_z w64 (of_z w64 z) +ℤ pos 1)))) ≡ pos (mag z)
+  back-read = rw back-is (read (pos (mag z)) f.sfits)
 
   pub back-positive : mag z + 1 ≡ positivePart (neg_ℤ z)
   unfolding positivePart

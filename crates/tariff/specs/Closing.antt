@@ -37,8 +37,8 @@ unfoldable pub breaksV8 : Bool → Dth → Units → Bool
 breaksV8 excused bcq bank = not excused && above bank (percent 102 bcq)
 
 -- R51: one bit for each violation, V1 the lowest.
-unfoldable pub mask_of : Bool → Bool → Bool → Bool → Bool → Bool → Bool → Bool → ℕ
-mask_of v1 v2 v3 v4 v5 v6 v7 v8 =
+unfoldable pub maskOf : Bool → Bool → Bool → Bool → Bool → Bool → Bool → Bool → ℕ
+maskOf v1 v2 v3 v4 v5 v6 v7 v8 =
     cond v1 1 0 + cond v2 2 0 + cond v3 4 0 + cond v4 8 0 + cond v5 16 0 + cond v6 32 0 + cond v7 64 0 + cond v8 128 0
 
 -- R52: an overdrawn bank is filled to the month's minimum; one far too full is emptied to the maximum, which gives cash below zero.

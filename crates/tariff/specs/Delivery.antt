@@ -19,8 +19,8 @@ breaksV1 m bcq amount = ltb (percent (mmbq m) bcq).0 (daysOfInjection m * (inwar
 
 -- R33: the fuller the bank before the delivery, the more of the MDDQ is open; a back-cast of the MDQ or more opens all of it.
 -- 100 × MDQ is the MDQ in units.
-unfoldable pub share_of : Units → Dth → Quantity → Dth → ℕ
-share_of bank bcq backCast mdq =
+unfoldable pub shareOf : Units → Dth → Quantity → Dth → ℕ
+shareOf bank bcq backCast mdq =
     cond (not (below bank (percent 30 bcq)) || leb (100 * mdq.0) backCast.0) 100
     (cond (not (below bank (percent 20 bcq))) 80
     (cond (not (below bank (percent 10 bcq))) 65

@@ -6,8 +6,8 @@ use Rattle.tariff.specs.Months.{february, march, april}
 use Rattle.tariff.specs.Holidays.{measurementDay}
 use Rattle.tariff.specs.Terms.{termsFrom, termsInRange, capacityOf}
 use Rattle.tariff.specs.Enrol.{staysOnFbs, openingTooHigh}
-use Rattle.tariff.specs.Delivery.{retained, breaksV1, share_of}
-use Rattle.tariff.specs.Steps.{step_of, measured}
+use Rattle.tariff.specs.Delivery.{retained, breaksV1, shareOf}
+use Rattle.tariff.specs.Steps.{stepOf, measured}
 use Rattle.tariff.specs.Closing.{cashOf, carryOf}
 use Rattle.tariff.specs.Bill.{cashInCharge}
 
@@ -40,7 +40,7 @@ markedPrices = record { inventory = 3000; highest = 3000; lowest = 0; pipeline =
 -- R67: each case names the rule that it is about.
 pub record MarkedCases : Type 0 where
   -- R25, R26: an MDQ of 4,200, its step, MDDQ and BCQ.
-  pub header : (termsInRange markedTerms ≡ true) × (step_of (dth 4200) ≡ 2) × (capacityOf markedTerms 2 ≡ record { mddq = dth 1500; bcq = dth 62505 })
+  pub header : (termsInRange markedTerms ≡ true) × (stepOf (dth 4200) ≡ 2) × (capacityOf markedTerms 2 ≡ record { mddq = dth 1500; bcq = dth 62505 })
   -- R31: a difference either way, and differences so small that nothing is left of them.
   pub case1 :
       (retained 150 (quantity 1000) (quantity 0) ≡ record { 0 = pos 985 })
@@ -52,7 +52,7 @@ pub record MarkedCases : Type 0 where
   -- R29: the largest opening bank, and a unit more.
   pub case3 : (openingTooHigh (quantity 1562625) (dth 62505) ≡ false) × (openingTooHigh (quantity 1562626) (dth 62505) ≡ true)
   -- R33: the least bank that opens the whole MDDQ, and a unit less, where the back-cast is 0.
-  pub case4 : (share_of (bank 1875150) (dth 62505) (quantity 0) (dth 4200) ≡ 100) × (share_of (bank 1875149) (dth 62505) (quantity 0) (dth 4200) ≡ 80)
+  pub case4 : (shareOf (bank 1875150) (dth 62505) (quantity 0) (dth 4200) ≡ 100) × (shareOf (bank 1875149) (dth 62505) (quantity 0) (dth 4200) ≡ 80)
   -- R28: the two sizes at which the answer turns, and a Dth less than each.
   pub case5 :
       (staysOnFbs false true (dth 999) ≡ true)

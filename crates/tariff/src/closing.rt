@@ -2,7 +2,7 @@
 ghost use Rattle.std.specs.Prelude.{◌≡◌, true, cond, ◌+◌, ◌≤◌};
 ghost use Rattle.tariff.specs.Amounts.{size};
 ghost use Rattle.tariff.specs.Dates.{real};
-ghost use Rattle.tariff.specs.Closing.{breaksV3, withdrawalLimit, breaksV4, breaksV5, breaksV6, breaksV7, breaksV8, cashOf, endsExcuse, carryOf, excessOver, forfeitOf, forfeitUnder, mask_of};
+ghost use Rattle.tariff.specs.Closing.{breaksV3, withdrawalLimit, breaksV4, breaksV5, breaksV6, breaksV7, breaksV8, cashOf, endsExcuse, carryOf, excessOver, forfeitOf, forfeitUnder, maskOf};
 ghost use Rattle.tariff.specs.Bounds.{mostBank, mostBcq};
 
 use crate::amounts::{Dth, Quantity, Units};
@@ -139,7 +139,7 @@ fn bit(broken: bool, value: u64) -> u64
 }
 
 pub fn mask(v1: bool, v2: bool, v3: bool, v4: bool, v5: bool, v6: bool, v7: bool, v8: bool) -> u64
-    ensures value { result ≡ mask_of v1 v2 v3 v4 v5 v6 v7 v8 }
+    ensures value { result ≡ maskOf v1 v2 v3 v4 v5 v6 v7 v8 }
     ensures bounded { result ≤ 255 }
 {
     bit(v1, 1)

@@ -24,8 +24,8 @@ fn leap(year: u64) -> bool
 // Worked out and not looked up: 31 and 30 days by turns, anew from August on, and February by itself. No test of months in branches: the
 // compiler would repeat them for each caller, and from some it makes the table that is not to be kept (docs/DECISIONS.md, 124).
 pub fn month_length(year: u64, month: Month) -> u64
-    requires le_year { (2000 ≤ year) × (year ≤ 2099) }
-    requires le_month { (1 ≤ month.0) × (month.0 ≤ 12) }
+    requires in_years { (2000 ≤ year) × (year ≤ 2099) }
+    requires in_months { (1 ≤ month.0) × (month.0 ≤ 12) }
     ensures { result ≡ monthLength year month }
 {
     let m = month.0;
@@ -126,9 +126,9 @@ impl Date {
 
     // Days since 1 January 2000. (367m − 362) / 12 counts the days before month m as if February had 30.
     fn day_number(self) -> u64
-        requires le_year { (2000 ≤ self.year) × (self.year ≤ 2099) }
-        requires le_month { (1 ≤ self.month.0) × (self.month.0 ≤ 12) }
-        requires le_day { (1 ≤ self.day) × (self.day ≤ 31) }
+        requires in_years { (2000 ≤ self.year) × (self.year ≤ 2099) }
+        requires in_months { (1 ≤ self.month.0) × (self.month.0 ≤ 12) }
+        requires in_days { (1 ≤ self.day) × (self.day ≤ 31) }
         ensures { (result ≡ dayNumber self) × (result < 40000) }
     {
         let m = self.month.0;
@@ -140,9 +140,9 @@ impl Date {
 
     // Monday 0 to Sunday 6.
     pub fn weekday(self) -> u64
-        requires le_year { (2000 ≤ self.year) × (self.year ≤ 2099) }
-        requires le_month { (1 ≤ self.month.0) × (self.month.0 ≤ 12) }
-        requires le_day { (1 ≤ self.day) × (self.day ≤ 31) }
+        requires in_years { (2000 ≤ self.year) × (self.year ≤ 2099) }
+        requires in_months { (1 ≤ self.month.0) × (self.month.0 ≤ 12) }
+        requires in_days { (1 ≤ self.day) × (self.day ≤ 31) }
         ensures { result ≡ weekday self }
     {
         (self.day_number() + 5) % 7

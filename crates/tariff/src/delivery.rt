@@ -1,7 +1,7 @@
 // A day's delivery: what it adds to the bank, and the limits on a day.
 ghost use Rattle.std.specs.Prelude.{◌≡◌, ◌≤◌};
 ghost use Rattle.tariff.specs.Amounts.{size};
-ghost use Rattle.tariff.specs.Delivery.{retained, daysOfInjection, breaksV1, share_of, breaksV2};
+ghost use Rattle.tariff.specs.Delivery.{retained, daysOfInjection, breaksV1, shareOf, breaksV2};
 ghost use Rattle.tariff.specs.Bounds.{mostBcq, mostMdq, mostRetainage, mostUnits};
 
 use crate::amounts::{Dth, Quantity, Units};
@@ -39,7 +39,7 @@ pub fn breaks_v1(m: Month, bcq: Dth, amount: Units) -> bool
 // The share of the MDDQ, in percent, that may be withdrawn in a day.
 pub fn share_of(bank: Units, bcq: Dth, back_cast: Quantity, mdq: Dth) -> u64
     requires { (bcq.0 ≤ mostBcq) × (mdq.0 ≤ mostMdq) }
-    ensures value { result ≡ share_of bank bcq back_cast mdq }
+    ensures value { result ≡ shareOf bank bcq back_cast mdq }
     ensures bounded { result ≤ 100 }
 {
     let thirty = !bank.below(Quantity::percent(30, bcq));

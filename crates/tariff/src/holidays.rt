@@ -53,9 +53,9 @@ impl Holidays {
 
     // Monday to Friday, and none of them.
     fn business_day(self, d: Date) -> bool
-        requires le_year { (2000 ≤ d.year) × (d.year ≤ 2099) }
-        requires le_month { (1 ≤ d.month.0) × (d.month.0 ≤ 12) }
-        requires le_day { (1 ≤ d.day) × (d.day ≤ 31) }
+        requires in_years { (2000 ≤ d.year) × (d.year ≤ 2099) }
+        requires in_months { (1 ≤ d.month.0) × (d.month.0 ≤ 12) }
+        requires in_days { (1 ≤ d.day) × (d.day ≤ 31) }
         ensures { result ≡ businessDay (heldDates self) d }
     {
         let weekday = d.weekday();
@@ -67,8 +67,8 @@ impl Holidays {
 
     // The first business day from the 25th on, or 0 where the month has none left.
     pub fn measurement_day(self, year: u64, month: Month) -> u64
-        requires le_year { (2000 ≤ year) × (year ≤ 2099) }
-        requires le_month { (1 ≤ month.0) × (month.0 ≤ 12) }
+        requires in_years { (2000 ≤ year) × (year ≤ 2099) }
+        requires in_months { (1 ≤ month.0) × (month.0 ≤ 12) }
         ensures { result ≡ measurementDay (heldDates self) year month }
     {
         let last = month_length(year, month);

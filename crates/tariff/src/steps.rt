@@ -1,6 +1,6 @@
 // The step of an account's MDQ, in factors of 3,000 Dth a day.
 ghost use Rattle.std.specs.Prelude.{◌≡◌, ◌≤◌};
-ghost use Rattle.tariff.specs.Steps.{step_of, firstStep, is_over, isUnder, crosses, measured, settledStep, falls};
+ghost use Rattle.tariff.specs.Steps.{stepOf, firstStep, isOver, isUnder, crosses, measured, settledStep, falls};
 ghost use Rattle.tariff.specs.Bounds.{mostMdq};
 
 use crate::amounts::Dth;
@@ -20,7 +20,7 @@ pub struct Step {
 // MDQ / 3,000, rounded up.
 fn step_of(mdq: Dth) -> u64
     requires { mdq.0 ≤ mostMdq }
-    ensures value { result ≡ step_of mdq }
+    ensures value { result ≡ stepOf mdq }
     ensures bounded { result ≤ 100 }
 {
     (mdq.0 + 2999) / 3000
@@ -44,7 +44,7 @@ impl Step {
     // The four tests compare steps and not 3,000 × k, so that no k of a ledger handed in can overflow them.
     fn is_over(self, m: Dth) -> bool
         requires { m.0 ≤ mostMdq }
-        ensures { result ≡ is_over self m }
+        ensures { result ≡ isOver self m }
     {
         self.k < (m.0 + 2999) / 3000
     }

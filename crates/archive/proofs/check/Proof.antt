@@ -5,7 +5,7 @@ use Prim.Native.Nat.{ℕ}
 use mathlib.Core.Bool.{Bool, true, false, not}
 use mathlib.Core.List.{List}
 use mathlib.Core.Path.{◌≡◌}
-use Rattle.archive.specs.Reading.{isNew, wrongHeader, rightDirectory, numbersOf, parts_of, checked}
+use Rattle.archive.specs.Reading.{isNew, wrongHeader, rightDirectory, numbersOf, partsOf, checked}
 use Rattle.archive.specs.Entries.{finding, firstRefusal}
 use Rattle.archive.specs.Structs.{Checked}
 use Rattle.archive.proofs.check.Statement.{statement}
@@ -24,7 +24,7 @@ module _ (a : List ℕ) (wrong : Bool) (w : wrong ≡ wrongHeader a) where
     unfolding checked finding
     directory-wrong t = cc (not-true right t)
 
-    entries-checked : not right ≡ false → (new : Bool) → new ≡ isNew a → (c : Checked) → c ≡ firstRefusal 0 (numbersOf new (parts_of a)) → c ≡ checked a
+    entries-checked : not right ≡ false → (new : Bool) → new ≡ isNew a → (c : Checked) → c ≡ firstRefusal 0 (numbersOf new (partsOf a)) → c ≡ checked a
     unfolding checked
     entries-checked t new n c e = cc (not-false right t)
 

@@ -12,26 +12,26 @@ use Rattle.tariff.specs.Dates.{divides, leap, lengths, monthLength, real, sameDa
 use Rattle.tariff.specs.Holidays.{allLeaveOne, heldDates, holidaysInRange, storedDates}
 use Rattle.tariff.specs.Terms.{termsInRange, mddqOf, bcqOf, capacityOf}
 use Rattle.tariff.specs.Enrol.{staysOnFbs, openingTooHigh}
-use Rattle.tariff.specs.Steps.{step_of, firstStep}
+use Rattle.tariff.specs.Steps.{stepOf, firstStep}
 use Rattle.tariff.specs.Bill.{pricesInRange}
 use Rattle.ledger.specs.Checks.{verdict}
-use Rattle.ledger.specs.Kinds.{lookup, kind_of}
-use Rattle.ledger.specs.Entries.{byte_at, halfAt, word_at, entry_of, termsOf, pricesOf, processOnly, wishes}
+use Rattle.ledger.specs.Kinds.{lookup, kindOf}
+use Rattle.ledger.specs.Entries.{byteAt, halfAt, wordAt, entryOf, termsOf, pricesOf, processOnly, wishes}
 use Rattle.ledger.specs.Forms.{accountTooHigh, unusedSet, wordsInRange, wrongTransfer, fieldChecks, entryChecks, entryNumber, formNumber}
 use Rattle.ledger.specs.State.{noTotals, noMonth, noToday, nobody, fresh, accountAt, heldIn, asOpen, withBank, withMeasure, withCapacity, withAccount}
-use Rattle.ledger.specs.Ranges.{totalsInRange, stepInRange, accountInRange, everyAccount, in_range}
+use Rattle.ledger.specs.Ranges.{totalsInRange, stepInRange, accountInRange, everyAccount, inRange}
 use Rattle.ledger.specs.Answers.{quiet, plain, refused, settle}
 use Rattle.ledger.specs.Terms.{reworked, termsNext, termsChecks, postTerms}
 use Rattle.ledger.specs.Enrol.{newAccount, enrolled, enrolChecks, enrolment}
 use Rattle.ledger.specs.Days.{wrongDay}
 use Rattle.ledger.specs.Posting.{standingChecks, admission, postSeveral, changeOf, stored, postKind, postEntry, posted}
 use Rattle.ledger.specs.Panel.{openBank, openBanks, panelOf}
-use Rattle.archive.specs.Words.{bytes_of}
+use Rattle.archive.specs.Words.{bytesOf}
 use Rattle.archive.specs.Entries.{firstEntries, entriesOf, closesMonth, finding, firstRefusal}
-use Rattle.archive.specs.Layout.{joined, sectionsOf, concatenated, header, directory, body_at, packed, archiveOf}
+use Rattle.archive.specs.Layout.{joined, sectionsOf, concatenated, header, directory, bodyAt, packed, archiveOf}
 use Rattle.archive.specs.Writing.{listChecked, tooLarge, unwritten, written, outputAfter}
-use Rattle.archive.specs.Reading.{sectionCount, opensAs, rightOpening, isNew, wrongHeader, pair_at, pairsFrom, pairsOf, rightLength, rightPairs, rightDirectory, part_at, parts_of, misplaced, number_in, numbersIn, numbersOf, checked, nowhere, place_of, sectionAt, list_of}
-use Rattle.archive.specs.Replay.{listIn, entriesIn, freshFor, count_of, asAccepted, asRefused, replayed, figuresOf}
+use Rattle.archive.specs.Reading.{sectionCount, opensAs, rightOpening, isNew, wrongHeader, pairAt, pairsFrom, pairsOf, rightLength, rightPairs, rightDirectory, partAt, partsOf, misplaced, numberIn, numbersIn, numbersOf, checked, nowhere, placeOf, sectionAt, listOf}
+use Rattle.archive.specs.Replay.{listIn, entriesIn, freshFor, countOf, asAccepted, asRefused, replayed, figuresOf}
 use Rattle.archive.specs.WorkedCases.{closings, list, WorkedCases}
 use Rattle.ledger.specs.MarkedCases.{closeMonth}
 use Rattle.archive.proofs.worked_cases.Statement.{statement}
@@ -54,26 +54,26 @@ entries-closings n =
     first (suc n) = ap (λ (es : List (List ℕ)). closeMonth 0 0 0 0 ∷ es) (first n)
 
 sections-closings : (n : ℕ) → sectionsOf (replicate n (closeMonth 0 0 0 0)) ≡ replicate n (closeMonth 0 0 0 0)
-unfolding sectionsOf closesMonth entry_of byte_at
+unfolding sectionsOf closesMonth entryOf byteAt
 sections-closings zero = refl
 sections-closings (suc n) = ap (λ (ss : List (List ℕ)). closeMonth 0 0 0 0 ∷ ss) (sections-closings n)
 
 right-closings : (n i : ℕ) → firstRefusal i (map (formNumber false) (replicate n (closeMonth 0 0 0 0))) ≡ finding 0 0
-unfolding divides leap lengths monthLength real pricesInRange verdict byte_at halfAt word_at entry_of lookup kind_of pricesOf accountTooHigh unusedSet wordsInRange wrongTransfer fieldChecks entryChecks entryNumber formNumber finding firstRefusal
+unfolding divides leap lengths monthLength real pricesInRange verdict byteAt halfAt wordAt entryOf lookup kindOf pricesOf accountTooHigh unusedSet wordsInRange wrongTransfer fieldChecks entryChecks entryNumber formNumber finding firstRefusal
 right-closings zero i = refl
 right-closings (suc n) i = right-closings n (i + 1)
 
-too_many : (n room : ℕ) → 1200 < n → written false (closings n) room ≡ unwritten 11 0
+too-many : (n room : ℕ) → 1200 < n → written false (closings n) room ≡ unwritten 11 0
 unfolding written listChecked tooLarge finding
-too_many n room h =
+too-many n room h =
     let whole : length (closings n) % 32 ≡ 0 = omega (arith, length-closings n) in
     rw (whole, entries-closings n, right-closings n 0, sections-closings n, length-replicate n (closeMonth 0 0 0 0), lt-ltb 1200 n h)
 
 worked : WorkedCases
-unfolding within amountOf withinMills above percent sameMonth april divides leap lengths monthLength real sameDate isOn firstOfGasYear allLeaveOne heldDates holidaysInRange storedDates termsInRange mddqOf bcqOf capacityOf staysOnFbs openingTooHigh step_of firstStep pricesInRange verdict byte_at halfAt word_at entry_of lookup kind_of termsOf pricesOf processOnly wishes accountTooHigh unusedSet wordsInRange wrongTransfer fieldChecks entryChecks entryNumber formNumber noTotals noMonth noToday nobody fresh accountAt heldIn asOpen withBank withMeasure withCapacity withAccount totalsInRange stepInRange accountInRange everyAccount in_range quiet plain refused settle reworked termsNext termsChecks postTerms newAccount enrolled enrolChecks enrolment standingChecks wrongDay admission postSeveral changeOf stored postKind postEntry posted openBank openBanks panelOf bytes_of firstEntries entriesOf closesMonth finding firstRefusal joined sectionsOf concatenated header directory body_at packed archiveOf listChecked tooLarge unwritten written outputAfter sectionCount opensAs rightOpening isNew wrongHeader pair_at pairsFrom pairsOf rightLength rightPairs rightDirectory part_at parts_of misplaced number_in numbersIn numbersOf checked nowhere place_of sectionAt list_of listIn entriesIn freshFor count_of asAccepted asRefused replayed figuresOf
+unfolding within amountOf withinMills above percent sameMonth april divides leap lengths monthLength real sameDate isOn firstOfGasYear allLeaveOne heldDates holidaysInRange storedDates termsInRange mddqOf bcqOf capacityOf staysOnFbs openingTooHigh stepOf firstStep pricesInRange verdict byteAt halfAt wordAt entryOf lookup kindOf termsOf pricesOf processOnly wishes accountTooHigh unusedSet wordsInRange wrongTransfer fieldChecks entryChecks entryNumber formNumber noTotals noMonth noToday nobody fresh accountAt heldIn asOpen withBank withMeasure withCapacity withAccount totalsInRange stepInRange accountInRange everyAccount inRange quiet plain refused settle reworked termsNext termsChecks postTerms newAccount enrolled enrolChecks enrolment standingChecks wrongDay admission postSeveral changeOf stored postKind postEntry posted openBank openBanks panelOf bytesOf firstEntries entriesOf closesMonth finding firstRefusal joined sectionsOf concatenated header directory bodyAt packed archiveOf listChecked tooLarge unwritten written outputAfter sectionCount opensAs rightOpening isNew wrongHeader pairAt pairsFrom pairsOf rightLength rightPairs rightDirectory partAt partsOf misplaced numberIn numbersIn numbersOf checked nowhere placeOf sectionAt listOf listIn entriesIn freshFor countOf asAccepted asRefused replayed figuresOf
 worked =
     record {
-      answer = either_way;
+      answer = either-way;
       output = refl;
       newOutput = refl;
       read = refl;
@@ -83,7 +83,7 @@ worked =
       number8 = (refl, refl);
       number9 = refl;
       number10 = refl;
-      number11 = too_many 1201 100000 (omega arith);
+      number11 = too-many 1201 100000 (omega arith);
       number12 = (refl, refl);
       number13 = (refl, refl);
       tenthKind = (refl, refl, refl, refl);
@@ -91,9 +91,9 @@ worked =
       refusedNew = (refl, refl, refl);
     }
   where
-    either_way : (new : Bool) → written new list 81 ≡ record { number = 0; index = 0; length = 80 }
-    either_way true = refl
-    either_way false = refl
+    either-way : (new : Bool) → written new list 81 ≡ record { number = 0; index = 0; length = 80 }
+    either-way true = refl
+    either-way false = refl
 
 returns : tie.Need-returns
 returns c = worked

@@ -5,7 +5,7 @@ use mathlib.Core.Bool.{true, false, not}
 use mathlib.Core.Path.{◌≡◌, ◌∙◌, sym}
 use lib.Ieee.{Float}
 use Rattle.backcast.specs.Answers.{accepted, backCast, isQuantity, refused, wholePart}
-use Rattle.backcast.specs.Load.{allNumbers, load_of}
+use Rattle.backcast.specs.Load.{allNumbers, loadOf}
 use Rattle.backcast.specs.Structs.{BackCast, LoadCurve}
 use Rattle.backcast.proofs.back_cast.Statement.{statement}
 use Rattle.backcast.proofs.back_cast.Tie as tie
@@ -15,7 +15,7 @@ module _ (curve : LoadCurve) (f : Float) (numbers : _) (n : numbers ≡ allNumbe
   unfolding backCast
   no-numbers r e t = cc (not-true numbers t)
 
-  module _ (load : _) (l : load ≡ load_of curve f) (quantity : _) (q : quantity ≡ isQuantity load) where
+  module _ (load : _) (l : load ≡ loadOf curve f) (quantity : _) (q : quantity ≡ isQuantity load) where
     no-quantity : (r : BackCast) → r ≡ refused 32 → not numbers ≡ false → not quantity ≡ true → r ≡ backCast curve f
     unfolding backCast
     no-quantity r e t u = cc (not-false numbers t, not-true quantity u)

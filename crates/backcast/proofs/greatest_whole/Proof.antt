@@ -2,8 +2,8 @@
 use native.Mathlib.Nat.{le_antisymm}
 use Rattle.backcast.specs.Answers.{backCast, wholePart}
 use Rattle.backcast.specs.GreatestWhole.{EveryAnswer, OnlyOne}
-use Rattle.backcast.specs.Load.{load_of}
-use Rattle.backcast.proofs.WholeParts.{greatest, quantity, whole_le}
+use Rattle.backcast.specs.Load.{loadOf}
+use Rattle.backcast.proofs.WholeParts.{greatest, quantity, whole-le}
 use Rattle.backcast.proofs.greatest_whole.Statement.{statement}
 use Rattle.backcast.proofs.greatest_whole.Tie as tie
 
@@ -13,11 +13,11 @@ every-answer curve f =
     record {
       noNumbers = λ n. rw n;
       noQuantity = λ n q. rw (n, q);
-      quantity = λ n q. let is = quantity (load_of curve f) q in (wholePart (load_of curve f), (rw (n, q), whole_le (load_of curve f) is, greatest (load_of curve f) is));
+      quantity = λ n q. let is = quantity (loadOf curve f) q in (wholePart (loadOf curve f), (rw (n, q), whole-le (loadOf curve f) is, greatest (loadOf curve f) is));
     }
 
-only_one : OnlyOne
-only_one x m n g h = le_antisymm (h.noGreater m g.notAbove) (g.noGreater n h.notAbove)
+only-one : OnlyOne
+only-one x m n g h = le_antisymm (h.noGreater m g.notAbove) (g.noGreater n h.notAbove)
 
 pub greatest_whole_spec : {M : Type 1} → statement M
-greatest_whole_spec = tie.close (tie.spec (λ c. (every-answer, only_one)))
+greatest_whole_spec = tie.close (tie.spec (λ c. (every-answer, only-one)))

@@ -1,15 +1,15 @@
 -- Each case is computed: the definitions, opened, give the answer that the case states.
 use mathlib.Core.Path.{refl}
 use lib.Ieee as Ieee
-use Rattle.backcast.specs.Doubles.{is_number, numerator, denominator}
-use Rattle.backcast.specs.Load.{allNumbers, load_of}
+use Rattle.backcast.specs.Doubles.{isNumber, numerator, denominator}
+use Rattle.backcast.specs.Load.{allNumbers, loadOf}
 use Rattle.backcast.specs.Answers.{isQuantity, wholePart, accepted, refused, backCast}
 use Rattle.backcast.specs.WorkedCases.{WorkedCases}
 use Rattle.backcast.proofs.worked_cases.Statement.{statement}
 use Rattle.backcast.proofs.worked_cases.Tie as tie
 
 all : WorkedCases
-unfolding Ieee.lt Ieee.add Ieee.sub Ieee.mul Ieee.round is_number numerator denominator allNumbers load_of isQuantity wholePart accepted refused backCast
+unfolding Ieee.lt Ieee.add Ieee.sub Ieee.mul Ieee.round isNumber numerator denominator allNumbers loadOf isQuantity wholePart accepted refused backCast
 all =
     record {
       usual = (refl, refl, refl);

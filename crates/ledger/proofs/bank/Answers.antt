@@ -19,4 +19,4 @@ returns-then-account-ge16 c =
 
 pub returns : goal.returns
 unfolding bankOf accountAt nobody noTotals noMonth noToday
-returns c = c.open_bank.ensures.result_value
+returns c = c.open_bank.ensures.value

@@ -6,7 +6,7 @@ use mathlib.Core.Bool.{Bool}
 use mathlib.Core.List.{List}
 use mathlib.Core.Path.{◌≡◌}
 use lib.ListN.{length}
-use Rattle.ledger.specs.Entries.{entry_of}
+use Rattle.ledger.specs.Entries.{entryOf}
 use Rattle.ledger.specs.Forms.{entryNumber, formNumber}
 use Rattle.ledger.specs.Structs.{Entry}
 use Rattle.ledger.proofs.entry_number.Statement.{statement}
@@ -17,7 +17,7 @@ module _ (new : Bool) (b : List ℕ) where
   unfolding formNumber
   otherwise d = cc (ne_eqb (length b) 32 d)
 
-  whole : length b ≡ 32 → (e : Entry) (n : ℕ) → e ≡ entry_of b → n ≡ entryNumber new e → n ≡ formNumber new b
+  whole : length b ≡ 32 → (e : Entry) (n : ℕ) → e ≡ entryOf b → n ≡ entryNumber new e → n ≡ formNumber new b
   unfolding formNumber
   whole h e n p q = cc (eq-eqb (length b) 32 h)
 

@@ -6,17 +6,17 @@ use Rattle.tariff.specs.Dates.{divides, leap, lengths, monthLength, real, sameDa
 use Rattle.tariff.specs.Holidays.{heldDates, storedDates, named, businessDay, firstBusinessDay, measurementDay, onMeasurementDay, leavesOne, allLeaveOne, holidaysInRange, keptFrom}
 use Rattle.tariff.specs.Terms.{termsInRange, mddqOf, bcqOf, capacityOf}
 use Rattle.tariff.specs.Enrol.{staysOnFbs, openingTooHigh}
-use Rattle.tariff.specs.Delivery.{retained, daysOfInjection, breaksV1, share_of, breaksV2}
+use Rattle.tariff.specs.Delivery.{retained, daysOfInjection, breaksV1, shareOf, breaksV2}
 use Rattle.tariff.specs.Limits.{aboveMaximum, belowMinimum}
-use Rattle.tariff.specs.Steps.{step_of, firstStep, is_over, isUnder, crosses, measured, settledStep, falls}
-use Rattle.tariff.specs.Closing.{breaksV3, withdrawalLimit, breaksV4, breaksV5, breaksV6, breaksV7, breaksV8, cashOf, endsExcuse, excessOver, carryOf, forfeitOf, forfeitUnder, mask_of}
+use Rattle.tariff.specs.Steps.{stepOf, firstStep, isOver, isUnder, crosses, measured, settledStep, falls}
+use Rattle.tariff.specs.Closing.{breaksV3, withdrawalLimit, breaksV4, breaksV5, breaksV6, breaksV7, breaksV8, cashOf, endsExcuse, excessOver, carryOf, forfeitOf, forfeitUnder, maskOf}
 use Rattle.tariff.specs.Bill.{pricesInRange, cashInCharge, cashOutCredit, atInventoryCost, billOf}
 use Rattle.ledger.specs.Checks.{verdict}
-use Rattle.ledger.specs.Kinds.{lookup, kind_of}
-use Rattle.ledger.specs.Entries.{byte_at, halfAt, word_at, entry_of, termsOf, pricesOf, processOnly, wishes, companySells}
+use Rattle.ledger.specs.Kinds.{lookup, kindOf}
+use Rattle.ledger.specs.Entries.{byteAt, halfAt, wordAt, entryOf, termsOf, pricesOf, processOnly, wishes, companySells}
 use Rattle.ledger.specs.Forms.{accountTooHigh, unusedSet, someUnits, wordsInRange, wrongTransfer, fieldChecks, entryChecks, entryNumber}
 use Rattle.ledger.specs.State.{noTotals, noMonth, noToday, nobody, fresh, accountAt, heldIn, asOpen, withExcuse, withToday, withBank, withMonth, withTotals, withCarry, withDays, withMeasure, withCapacity, withAccount}
-use Rattle.ledger.specs.Ranges.{totalsInRange, stepInRange, accountInRange, everyAccount, in_range}
+use Rattle.ledger.specs.Ranges.{totalsInRange, stepInRange, accountInRange, everyAccount, inRange}
 use Rattle.ledger.specs.Answers.{quiet, plain, refused, settle}
 use Rattle.ledger.specs.Terms.{reworked, termsNext, termsChecks, postTerms}
 use Rattle.ledger.specs.Enrol.{newAccount, enrolled, enrolChecks, enrolment}
@@ -36,7 +36,7 @@ use Rattle.ledger.proofs.marked_cases.Statement.{statement}
 use Rattle.ledger.proofs.marked_cases.Tie as tie
 
 all-nine : MarkedCases
-unfolding nothing amountOf sum more less gap opposite positivePart inward outward above below within together percent noMoney charged credited added withinMills january february march april june august november december sameMonth gasMonth winter minimum maximum mmbq withdrawalMaximum withdrawalMinimum divides leap lengths monthLength real sameDate isOn firstOfGasYear confiscationDay lastOfMonth lastDate dayAfter total dayNumber weekday heldDates storedDates named businessDay firstBusinessDay measurementDay onMeasurementDay leavesOne allLeaveOne holidaysInRange keptFrom termsInRange mddqOf bcqOf capacityOf staysOnFbs openingTooHigh retained daysOfInjection breaksV1 share_of breaksV2 aboveMaximum belowMinimum step_of firstStep is_over isUnder crosses measured settledStep falls breaksV3 withdrawalLimit breaksV4 breaksV5 breaksV6 breaksV7 breaksV8 cashOf endsExcuse excessOver carryOf forfeitOf forfeitUnder mask_of pricesInRange cashInCharge cashOutCredit atInventoryCost billOf verdict byte_at halfAt word_at entry_of lookup kind_of termsOf pricesOf processOnly wishes companySells accountTooHigh unusedSet someUnits wordsInRange wrongTransfer fieldChecks entryChecks entryNumber noTotals noMonth noToday nobody fresh accountAt heldIn asOpen withExcuse withToday withBank withMonth withTotals withCarry withDays withMeasure withCapacity withAccount totalsInRange stepInRange accountInRange everyAccount in_range quiet plain refused settle reworked termsNext termsChecks postTerms newAccount enrolled enrolChecks enrolment withNet deliveredToday delivered amountUnder afterDelivery deliverChecks delivery giver receiver transferChecks postTransfer afterGiving afterTaking givingChecks takingChecks giving taking withTrade booked traded trade remeasured afterMeasure measureChecks measurement withUsage metered afterUsage usageChecks usage limitOf violationsOf cashAt withCash excusedStill dayEnd afterDay billAt nextCapacity excessAt forfeitAt monthEnd afterMonth dayClosing monthClosing leftAlone closingOf afterClosing reportOf wrongDay ready staysInRange closingChecks holidaysAfter closed postClosing standingChecks admission postSeveral changeOf stored postKind postEntry posted openBank bankOf
+unfolding nothing amountOf sum more less gap opposite positivePart inward outward above below within together percent noMoney charged credited added withinMills january february march april june august november december sameMonth gasMonth winter minimum maximum mmbq withdrawalMaximum withdrawalMinimum divides leap lengths monthLength real sameDate isOn firstOfGasYear confiscationDay lastOfMonth lastDate dayAfter total dayNumber weekday heldDates storedDates named businessDay firstBusinessDay measurementDay onMeasurementDay leavesOne allLeaveOne holidaysInRange keptFrom termsInRange mddqOf bcqOf capacityOf staysOnFbs openingTooHigh retained daysOfInjection breaksV1 shareOf breaksV2 aboveMaximum belowMinimum stepOf firstStep isOver isUnder crosses measured settledStep falls breaksV3 withdrawalLimit breaksV4 breaksV5 breaksV6 breaksV7 breaksV8 cashOf endsExcuse excessOver carryOf forfeitOf forfeitUnder maskOf pricesInRange cashInCharge cashOutCredit atInventoryCost billOf verdict byteAt halfAt wordAt entryOf lookup kindOf termsOf pricesOf processOnly wishes companySells accountTooHigh unusedSet someUnits wordsInRange wrongTransfer fieldChecks entryChecks entryNumber noTotals noMonth noToday nobody fresh accountAt heldIn asOpen withExcuse withToday withBank withMonth withTotals withCarry withDays withMeasure withCapacity withAccount totalsInRange stepInRange accountInRange everyAccount inRange quiet plain refused settle reworked termsNext termsChecks postTerms newAccount enrolled enrolChecks enrolment withNet deliveredToday delivered amountUnder afterDelivery deliverChecks delivery giver receiver transferChecks postTransfer afterGiving afterTaking givingChecks takingChecks giving taking withTrade booked traded trade remeasured afterMeasure measureChecks measurement withUsage metered afterUsage usageChecks usage limitOf violationsOf cashAt withCash excusedStill dayEnd afterDay billAt nextCapacity excessAt forfeitAt monthEnd afterMonth dayClosing monthClosing leftAlone closingOf afterClosing reportOf wrongDay ready staysInRange closingChecks holidaysAfter closed postClosing standingChecks admission postSeveral changeOf stored postKind postEntry posted openBank bankOf
 all-nine =
     record {
       header = (refl, refl, refl);

@@ -6,9 +6,9 @@ use lib.Dec.{leb}
 use borrow.Author.Rules.{rules}
 use borrow.Author.Tests.{leb-true, not-false, not-true}
 use Rattle.tariff.specs.Holidays.{heldDates, measurementDay}
-use Rattle.tariff.proofs.Bools.{and_right, parts}
+use Rattle.tariff.proofs.Bools.{and-right, parts}
 use Rattle.ledger.specs.Measuring.{hasMonth, measurementDayIn}
-use Rattle.ledger.specs.Ranges.{in_range}
+use Rattle.ledger.specs.Ranges.{inRange}
 use Rattle.ledger.specs.State.{heldIn}
 use Rattle.ledger.specs.Structs.{Ledger}
 use Rattle.ledger.proofs.measurement_day.Statement.{statement}
@@ -19,10 +19,10 @@ exists year month = leb 2000 year && leb year 2099 && (leb 1 month && leb month 
 
 in-calendar : (year month : ℕ) (fits : Bool) → not (fits && exists year month) ≡ false → ((2000 ≤ year) × (year ≤ 2099)) × ((1 ≤ month) × (month ≤ 12))
 in-calendar year month fits z =
-    let all : exists year month ≡ true = and_right fits (exists year month) (not-false (fits && exists year month) z) in
+    let all : exists year month ≡ true = and-right fits (exists year month) (not-false (fits && exists year month) z) in
     ((leb-true 2000 year (search parts), leb-true year 2099 (search parts)), (leb-true 1 month (search parts), leb-true month 12 (search parts)))
 
-module _ (l : Ledger) (year month : ℕ) (fits : Bool) (f : fits ≡ in_range l) where
+module _ (l : Ledger) (year month : ℕ) (fits : Bool) (f : fits ≡ inRange l) where
   none : not (fits && exists year month) ≡ true → 0 ≡ measurementDayIn l year month
   unfolding measurementDayIn hasMonth
   none z = rw (← f, not-true (fits && exists year month) z)

@@ -8,16 +8,16 @@ use Prim.Native.Nat.{ℕ, ◌≤◌}
 use lib.ListN.{drop, length}
 use Rattle.ledger.proofs.Lists.{every-end, every-next, length-mapped}
 use Rattle.ledger.proofs.OneAccount.{Judged, Single, admitted, posted-otherwise, posted-refused, posted-several, posted-stored, posted-unchanged, single}
-use Rattle.ledger.specs.Kinds.{kind_of}
-use Rattle.ledger.specs.Entries.{entry_of}
+use Rattle.ledger.specs.Kinds.{kindOf}
+use Rattle.ledger.specs.Entries.{entryOf}
 use Rattle.ledger.specs.Posting.{admission}
-use Rattle.ledger.specs.Ranges.{accountInRange, everyAccount, in_range}
+use Rattle.ledger.specs.Ranges.{accountInRange, everyAccount, inRange}
 use Rattle.ledger.specs.State.{accountAt, noMonth, noToday, noTotals, nobody, withAccount}
 use Rattle.ledger.specs.Structs.{Entry, Kind, Ledger}
 use Rattle.ledger.proofs.post.Goals as goal
 
 pub loop-k-init : goal.loop-k-init
-unfolding in_range
+unfolding inRange
 loop-k-init c = cc
 
 pub loop-k-preserved : goal.loop-k-preserved
@@ -27,13 +27,13 @@ loop-k-preserved c =
     cc (every-next accountInRange c.args.ledger.accounts c.loop-k.k nobody c.loop-k.fits (omega (arith, sixteen)))
 
 -- after the loop: the bytes are the entry, and the number after the loop is the ledger's
-judged : (l : Ledger) (b : List ℕ) (e : Entry) (fits : Bool) (k n : ℕ) → length l.accounts ≡ 16 → length b ≡ 32 → e ≡ entry_of b
-    → fits && everyAccount accountInRange (drop k l.accounts) ≡ in_range l → 16 ≤ k → (in_range l ≡ fits → n ≡ admission l e) → Judged l b e n
+judged : (l : Ledger) (b : List ℕ) (e : Entry) (fits : Bool) (k n : ℕ) → length l.accounts ≡ 16 → length b ≡ 32 → e ≡ entryOf b
+    → fits && everyAccount accountInRange (drop k l.accounts) ≡ inRange l → 16 ≤ k → (inRange l ≡ fits → n ≡ admission l e) → Judged l b e n
 judged l b e fits k n s w is v h f =
     record { whole = w; is = is; number = f (sym v ∙ every-end accountInRange l.accounts k fits (omega arith)) }
 
 -- and it concerns one account
-alone : (l : Ledger) (b : List ℕ) (e : Entry) (n : ℕ) (k : Kind) → length l.accounts ≡ 16 → Judged l b e n → n ≡ 0 → k ≡ kind_of e.kind → k.accounts ≡ 1 → Single l e
+alone : (l : Ledger) (b : List ℕ) (e : Entry) (n : ℕ) (k : Kind) → length l.accounts ≡ 16 → Judged l b e n → n ≡ 0 → k ≡ kindOf e.kind → k.accounts ≡ 1 → Single l e
 alone l b e n k s j z is one = single l e s (admitted j z) (ap (λ (r : Kind). r.accounts) (sym is) ∙ one)
 
 pub returns-then-entry-ne32 : goal.returns-then-entry-ne32

@@ -5,7 +5,7 @@ use mathlib.Core.Path.{◌≡◌}
 use lib.Dec.{leb}
 use borrow.Author.Rules.{rules}
 use borrow.Author.Tests.{leb-true}
-use Rattle.tariff.proofs.Bools.{and_right}
+use Rattle.tariff.proofs.Bools.{and-right}
 use Rattle.nedrulov.specs.Limits.{bandOf, limited}
 use Rattle.tariff.specs.Amounts.{percent}
 use Rattle.tariff.specs.Months.{maximum, minimum}
@@ -13,7 +13,7 @@ use Rattle.nedrulov.proofs.nedrulov_band.Statement.{statement}
 use Rattle.nedrulov.proofs.nedrulov_band.Tie as tie
 
 in-range : (month bcq : ℕ) → leb 1 month && leb month 12 && leb bcq 30000000 ≡ true → bcq ≤ 30000000
-in-range month bcq t = leb-true bcq 30000000 (and_right (leb 1 month && leb month 12) (leb bcq 30000000) t)
+in-range month bcq t = leb-true bcq 30000000 (and-right (leb 1 month && leb month 12) (leb bcq 30000000) t)
 
 -- the answer, by the one test
 module _ (month bcq : ℕ) where

@@ -15,8 +15,8 @@ use Rattle.partners.specs.Listing.{answer, partnerChecks, partnersBelow, partner
 use Rattle.partners.specs.Receivers.{couldReceive, spares, takes}
 use Rattle.partners.specs.Structs.{Ledger}
 use Rattle.partners.specs.Transfers.{ListedCanBeSent, couldSend, transferToday}
-use Rattle.partners.proofs.Members.{below-is-in, listed_answer}
-use Rattle.partners.proofs.Numbers.{check-by-check, in_reach, is-begun, is_open, is-ranged, is_some}
+use Rattle.partners.proofs.Members.{below-is-in, listed-answer}
+use Rattle.partners.proofs.Numbers.{check-by-check, in-reach, is-begun, is-open, is-ranged, is-some}
 use Rattle.partners.proofs.listed_can_be_sent.Statement.{statement}
 use Rattle.partners.proofs.listed_can_be_sent.Tie as tie
 
@@ -30,35 +30,35 @@ module _ (l : Ledger) (s j q : ℕ) where
   is-listed = go (eqb number 0)
     where
       go : (t : Bool) → isIn j (listed (cond t (answer 0 (partnersBelow l s q 16)) (answer number []))) ≡ t && (ltb j 16 && couldReceive l s q j)
-      go true = rw (listed_answer 0 (partnersBelow l s q 16)) (below-is-in l s q 16 j)
-      go false = rw (listed_answer number []) (unfold isIn times in refl)
+      go true = rw (listed-answer 0 (partnersBelow l s q 16)) (below-is-in l s q 16 j)
+      go false = rw (listed-answer number []) (unfold isIn times in refl)
 
   listed-transferable : eqb number 0 && (ltb j 16 && couldReceive l s q j) ≡ true → Transferable l s j q
   unfolding couldReceive takes spares
   listed-transferable h =
       let z : number ≡ 0 = eqb-true number 0 (search parts) in
       record {
-        from = in_reach l s q z;
+        from = in-reach l s q z;
         to = ltb-true j 16 (search parts);
         apart = λ (p : s ≡ j). eqb-false j s (not-true (eqb j s) (search parts)) (sym p);
-        units = is_some l s q z;
+        units = is-some l s q z;
         ranged = is-ranged l s q z;
         begun = is-begun l s q z;
-        gives = is_open l s q z;
+        gives = is-open l s q z;
         takes = search parts;
         kept = not-true _ (search parts);
         fits = not-true _ (search parts);
       }
 
-  no_number : Transferable l s j q → number ≡ 0
-  no_number t =
+  no-number : Transferable l s j q → number ≡ 0
+  no-number t =
       let units : leb 1 q && leb q 1000000000 ≡ true = sym (units-between q) ∙ t.units in
       cc (check-by-check l s q, lt-leb 16 s t.from)
 
   transferable-listed : Transferable l s j q → eqb number 0 && (ltb j 16 && couldReceive l s q j) ≡ true
   unfolding couldReceive takes spares
   transferable-listed t =
-      rw (eq-eqb number 0 (no_number t), lt-ltb j 16 t.to, t.takes, ne_eqb j s (λ (p : j ≡ s). t.apart (sym p)), t.fits, t.kept)
+      rw (eq-eqb number 0 (no-number t), lt-ltb j 16 t.to, t.takes, ne_eqb j s (λ (p : j ≡ s). t.apart (sym p)), t.fits, t.kept)
 
 -- two tests that pass together are one
 alike : (a b : Bool) → (a ≡ true → b ≡ true) → (b ≡ true → a ≡ true) → a ≡ b

@@ -8,7 +8,7 @@ use lib.ListN.{length}
 use Rattle.ledger.specs.Checks.{verdict}
 use Rattle.partners.specs.Listing.{answer, partnerChecks, partnersBelow, partnersOf}
 use Rattle.partners.specs.Structs.{Ledger, PartnerList}
-use Rattle.partners.proofs.Numbers.{in_reach, is-ranged, some_fit}
+use Rattle.partners.proofs.Numbers.{in-reach, is-ranged, some-fit}
 use Rattle.partners.proofs.partners.Statement.{statement}
 use Rattle.partners.proofs.partners.Tie as tie
 
@@ -33,7 +33,7 @@ partners_spec =
     let s : tie.Start = search in
     let at : tie.After-number-n = search in
     let h : verdict (partnerChecks s.args.ledger s.args.seller s.args.quantity) ≡ 0 = sym at.number-n.ensures ∙ c.if-n-ne0.false in
-    (is-ranged _ _ _ h, in_reach _ _ _ h, (some_fit _ _ _ h).1))
+    (is-ranged _ _ _ h, in-reach _ _ _ h, (some-fit _ _ _ h).1))
     (search rules)
     (λ c.
     let at : tie.After-number-n = search in

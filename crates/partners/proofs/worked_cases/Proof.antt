@@ -7,11 +7,11 @@ use Rattle.tariff.specs.Holidays.{allLeaveOne, heldDates, holidaysInRange, store
 use Rattle.tariff.specs.Terms.{termsInRange}
 use Rattle.tariff.specs.Limits.{aboveMaximum, belowMinimum}
 use Rattle.ledger.specs.Checks.{verdict}
-use Rattle.ledger.specs.Kinds.{lookup, kind_of}
-use Rattle.ledger.specs.Entries.{byte_at, halfAt, word_at, entry_of, termsOf}
+use Rattle.ledger.specs.Kinds.{lookup, kindOf}
+use Rattle.ledger.specs.Entries.{byteAt, halfAt, wordAt, entryOf, termsOf}
 use Rattle.ledger.specs.Forms.{accountTooHigh, unusedSet, someUnits, wordsInRange, wrongTransfer, fieldChecks, entryChecks}
 use Rattle.ledger.specs.State.{noTotals, noMonth, noToday, nobody, accountAt, heldIn, withBank, withAccount}
-use Rattle.ledger.specs.Ranges.{totalsInRange, stepInRange, accountInRange, everyAccount, in_range}
+use Rattle.ledger.specs.Ranges.{totalsInRange, stepInRange, accountInRange, everyAccount, inRange}
 use Rattle.ledger.specs.Answers.{quiet, plain, refused, settle}
 use Rattle.ledger.specs.Gas.{afterGiving, afterTaking, givingChecks, takingChecks, giving, taking}
 use Rattle.ledger.specs.Transfer.{giver, receiver, transferChecks, postTransfer}
@@ -26,7 +26,7 @@ use Rattle.partners.proofs.worked_cases.Statement.{statement}
 use Rattle.partners.proofs.worked_cases.Tie as tie
 
 all-cases : WorkedCases
-unfolding more less gap above below exceeds within percent withinMills gasMonth minimum maximum sameMonth divides leap lengths monthLength real sameDate allLeaveOne heldDates holidaysInRange storedDates termsInRange aboveMaximum belowMinimum verdict lookup kind_of byte_at halfAt word_at entry_of termsOf accountTooHigh unusedSet someUnits wordsInRange wrongTransfer fieldChecks entryChecks noTotals noMonth noToday nobody accountAt heldIn withBank withAccount totalsInRange stepInRange accountInRange everyAccount in_range quiet plain refused settle afterGiving afterTaking givingChecks takingChecks giving taking giver receiver transferChecks postTransfer wrongDay standingChecks admission postSeveral postKind postEntry posted takes spares couldReceive headroom partnerOf amongEquals comesBefore partnerAt before placed partnersBelow partnerChecks answer partnersOf transferToday couldSend
+unfolding more less gap above below exceeds within percent withinMills gasMonth minimum maximum sameMonth divides leap lengths monthLength real sameDate allLeaveOne heldDates holidaysInRange storedDates termsInRange aboveMaximum belowMinimum verdict lookup kindOf byteAt halfAt wordAt entryOf termsOf accountTooHigh unusedSet someUnits wordsInRange wrongTransfer fieldChecks entryChecks noTotals noMonth noToday nobody accountAt heldIn withBank withAccount totalsInRange stepInRange accountInRange everyAccount inRange quiet plain refused settle afterGiving afterTaking givingChecks takingChecks giving taking giver receiver transferChecks postTransfer wrongDay standingChecks admission postSeveral postKind postEntry posted takes spares couldReceive headroom partnerOf amongEquals comesBefore partnerAt before placed partnersBelow partnerChecks answer partnersOf transferToday couldSend
 all-cases =
     record {
       usual = (refl, refl);

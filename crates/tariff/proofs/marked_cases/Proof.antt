@@ -6,8 +6,8 @@ use Rattle.tariff.specs.Dates.{divides, leap, lengths, monthLength, total, dayNu
 use Rattle.tariff.specs.Holidays.{businessDay, firstBusinessDay, measurementDay, named}
 use Rattle.tariff.specs.Terms.{termsInRange, mddqOf, bcqOf, capacityOf}
 use Rattle.tariff.specs.Enrol.{staysOnFbs, openingTooHigh}
-use Rattle.tariff.specs.Delivery.{retained, daysOfInjection, breaksV1, share_of}
-use Rattle.tariff.specs.Steps.{step_of, is_over, isUnder, crosses, measured}
+use Rattle.tariff.specs.Delivery.{retained, daysOfInjection, breaksV1, shareOf}
+use Rattle.tariff.specs.Steps.{stepOf, isOver, isUnder, crosses, measured}
 use Rattle.tariff.specs.Closing.{breaksV7, cashOf, excessOver, carryOf}
 use Rattle.tariff.specs.Bill.{cashInCharge}
 use Rattle.tariff.specs.MarkedCases.{MarkedCases}
@@ -15,7 +15,7 @@ use Rattle.tariff.proofs.marked_cases.Statement.{statement}
 use Rattle.tariff.proofs.marked_cases.Tie as tie
 
 all-nine : MarkedCases
-unfolding positivePart inward opposite less below gap percent february march april november december sameMonth gasMonth winter mmbq minimum divides leap lengths monthLength total dayNumber weekday named businessDay firstBusinessDay measurementDay termsInRange mddqOf bcqOf capacityOf staysOnFbs openingTooHigh retained daysOfInjection breaksV1 share_of step_of is_over isUnder crosses measured breaksV7 cashOf excessOver carryOf cashInCharge
+unfolding positivePart inward opposite less below gap percent february march april november december sameMonth gasMonth winter mmbq minimum divides leap lengths monthLength total dayNumber weekday named businessDay firstBusinessDay measurementDay termsInRange mddqOf bcqOf capacityOf staysOnFbs openingTooHigh retained daysOfInjection breaksV1 shareOf stepOf isOver isUnder crosses measured breaksV7 cashOf excessOver carryOf cashInCharge
 all-nine =
     record {
       header = (refl, refl, refl);

@@ -8,10 +8,10 @@ use mathlib.Core.List.{List}
 use mathlib.Core.Path.{◌≡◌, refl}
 use lib.Dec.{eqb}
 use lib.ListN.{length, take, drop}
-use Rattle.archive.specs.Reading.{number_in, numbersIn}
+use Rattle.archive.specs.Reading.{numberIn, numbersIn}
 use Rattle.archive.specs.Entries.{entriesOf, firstEntries, finding, firstRefusal}
 use Rattle.archive.proofs.Numbering.{numbers-next}
-use Rattle.archive.proofs.EntryLists.{entries_none}
+use Rattle.archive.proofs.EntryLists.{entries-none}
 use Rattle.archive.proofs.reading.check_section.Statement.{statement}
 use Rattle.archive.proofs.reading.check_section.Tie as tie
 
@@ -27,9 +27,9 @@ invariant-loop new section first last n k₀ k = Rest new section first last n k
 abbrev decreases-loop : tie.decreases-loop-k
 decreases-loop new section first last n k₀ k = n - k
 
-at_first : (new : Bool) (s : List ℕ) (first : ℕ) (last : Bool) → Rest new s first last (length s / 32) 0
+at-first : (new : Bool) (s : List ℕ) (first : ℕ) (last : Bool) → Rest new s first last (length s / 32) 0
 unfolding entriesOf
-at_first new s first last =
+at-first new s first last =
     let z : length s / 32 - 0 ≡ length s / 32 = omega arith in
     let i : first + 0 ≡ first = omega arith in
     record { within = omega arith; all = refl; same = rw (z, i) }
@@ -37,9 +37,9 @@ at_first new s first last =
 module _ (new : Bool) (s : List ℕ) (first : ℕ) (last : Bool) (n k : ℕ) (r : Rest new s first last n k) where
   none-refused : n ≤ k → record { number = 0; index = 0 } ≡ firstRefusal first (numbersIn new last (entriesOf s))
   unfolding finding firstRefusal numbersIn
-  none-refused h = rw (entries_none n k (drop (32 * k) s) h) at r.same
+  none-refused h = rw (entries-none n k (drop (32 * k) s) h) at r.same
 
-  module _ (more : k < n) (m : ℕ) (e : m ≡ number_in new (eqb (k + 1) n) last (take (32 * k + 32 - 32 * k) (drop (32 * k) s))) where
+  module _ (more : k < n) (m : ℕ) (e : m ≡ numberIn new (eqb (k + 1) n) last (take (32 * k + 32 - 32 * k) (drop (32 * k) s))) where
     refused : (m ≡ 0 → ⊥) → record { number = m; index = first + k } ≡ firstRefusal first (numbersIn new last (entriesOf s))
     unfolding finding firstRefusal
     refused d = cc (rw (numbers-next new last n k s more) at r.same, ne_eqb m 0 d)
@@ -56,7 +56,7 @@ check_section_spec =
     (tie.spec
     invariant-loop
     decreases-loop
-    (λ c. search at_first)
+    (λ c. search at-first)
     (λ c. search rules)
     (λ c. search rules)
     (λ c. search rules)

@@ -7,8 +7,8 @@ use mathlib.Core.List.{List}
 use mathlib.Core.Path.{◌≡◌, ◌∙◌}
 use lib.ListN.{length, take, drop}
 use lib.Seq.{drop-length}
-use Rattle.archive.specs.Layout.{body_at}
-use Rattle.archive.specs.Reading.{sectionCount, checked, list_of}
+use Rattle.archive.specs.Layout.{bodyAt}
+use Rattle.archive.specs.Reading.{sectionCount, checked, listOf}
 use Rattle.archive.specs.Replay.{listIn}
 use Rattle.archive.proofs.Acceptance.{checked-tells}
 use Rattle.archive.proofs.Headers.{Measured, measured}
@@ -22,7 +22,7 @@ module _ (a : List ℕ) (number : ℕ) (is : number ≡ (checked a).number) wher
   refused d = rest-whole a (length a) ∙ drop-length a ∙ rw (ne_eqb (checked a).number 0 (λ z. d (is ∙ z)))
 
   accepted : number ≡ 0 → (n : ℕ) → n ≡ sectionCount a → take (length a - (8 + 8 * n)) (drop (8 + 8 * n) a) ≡ listIn a
-  unfolding listIn list_of body_at
+  unfolding listIn listOf bodyAt
   accepted z n e = rest-whole a (8 + 8 * n) ∙ rw (e, eq-eqb (checked a).number 0 (cc))
 
   sizes : number ≡ 0 → Measured a

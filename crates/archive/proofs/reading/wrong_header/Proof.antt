@@ -6,17 +6,17 @@ use mathlib.Core.Bool.{true}
 use mathlib.Core.List.{List}
 use mathlib.Core.Path.{◌≡◌}
 use lib.ListN.{length}
-use Rattle.archive.specs.Layout.{body_at}
+use Rattle.archive.specs.Layout.{bodyAt}
 use Rattle.archive.specs.Reading.{rightOpening, wrongHeader}
 use Rattle.archive.proofs.reading.wrong_header.Statement.{statement}
 use Rattle.archive.proofs.reading.wrong_header.Tie as tie
 
-too_short : (a : List ℕ) → length a < 8 → true ≡ wrongHeader a
+too-short : (a : List ℕ) → length a < 8 → true ≡ wrongHeader a
 unfolding wrongHeader
-too_short a h = rw (lt-ltb (length a) 8 h)
+too-short a h = rw (lt-ltb (length a) 8 h)
 
 returns-2 : tie.Need-returns
-unfolding wrongHeader rightOpening body_at
+unfolding wrongHeader rightOpening bodyAt
 returns-2 c =
     let s : tie.Start = search in
     let n : tie.After-section_count-count = search in
@@ -28,7 +28,7 @@ pub wrong_header_spec : {M : Type 1} → statement M
 wrong_header_spec =
     tie.close
     (tie.spec
-    (λ c. search too_short)
+    (λ c. search too-short)
     (λ c κs. search rules)
     (λ c κs. search rules)
     (λ c κs. search rules)

@@ -11,9 +11,9 @@ use Rattle.ledger.specs.Running.{history, run}
 use Rattle.ledger.specs.State.{fresh}
 use Rattle.archive.specs.Structs.{Ledger}
 use Rattle.ledger.specs.declared.answers.Posted.{Posted}
-use Rattle.archive.specs.Replay.{count_of, asAccepted, asRefused}
+use Rattle.archive.specs.Replay.{countOf, asAccepted, asRefused}
 use Rattle.archive.specs.Entries.{entriesOf}
-use Rattle.archive.proofs.Replays.{accepting, accepting-le, as-accepted, as-refused, left, bytes, run-turn, count_turn, run-over, count-over}
+use Rattle.archive.proofs.Replays.{accepting, accepting-le, as-accepted, as-refused, left, bytes, run-turn, count-turn, run-over, count-over}
 use Rattle.archive.proofs.replaying.post_all.Statement.{statement}
 use Rattle.archive.proofs.replaying.post_all.Tie as tie
 
@@ -23,8 +23,8 @@ record Rest (new : Bool) (s : List ℕ) (n : ℕ) (l : Ledger) (accepted refused
   all : n ≡ length s / 32
   some : accepted ≤ k
   others : refused ≤ k
-  accepts : accepted + count_of asAccepted (history l (left n k s l)) ≡ count_of asAccepted (history (fresh new) (entriesOf s))
-  refuses : refused + count_of asRefused (history l (left n k s l)) ≡ count_of asRefused (history (fresh new) (entriesOf s))
+  accepts : accepted + countOf asAccepted (history l (left n k s l)) ≡ countOf asAccepted (history (fresh new) (entriesOf s))
+  refuses : refused + countOf asRefused (history l (left n k s l)) ≡ countOf asRefused (history (fresh new) (entriesOf s))
   same : run l (left n k s l) ≡ run (fresh new) (entriesOf s)
 
 abbrev invariant-loop : tie.invariant-loop-k
@@ -33,9 +33,9 @@ invariant-loop new list found n ledger₀ accepted₀ refused₀ k₀ ledger acc
 abbrev decreases-loop : tie.decreases-loop-k
 decreases-loop new list found n ledger₀ accepted₀ refused₀ k₀ ledger accepted refused k = n - k
 
-at_first : (new : Bool) (s : List ℕ) (l : Ledger) → l ≡ fresh new → Rest new s (length s / 32) l 0 0 0
+at-first : (new : Bool) (s : List ℕ) (l : Ledger) → l ≡ fresh new → Rest new s (length s / 32) l 0 0 0
 unfolding entriesOf
-at_first new s l e =
+at-first new s l e =
     let z : length s / 32 - 0 ≡ length s / 32 = omega arith in
     record { within = omega arith; all = refl; some = omega arith; others = omega arith; accepts = rw (z, e) (omega arith); refuses = rw (z, e) (omega arith); same = rw (z, e) }
 
@@ -44,8 +44,8 @@ module _ (new : Bool) (s : List ℕ) (n : ℕ) (l : Ledger) (accepted refused k 
       → (taken passed j : ℕ) → taken ≡ accepted + one → passed ≡ refused + (1 - one) → j ≡ k + 1 → Rest new s n p.ledger taken passed j
   one-posted more p e one u taken passed j v w z =
       let small = accepting-le p.answer.number in
-      let counted = count_turn n k s l asAccepted (λ (q : Posted). accepting q.answer.number) (as-accepted (bytes n k s l)) more p e in
-      let others = count_turn n k s l asRefused (λ (q : Posted). 1 - accepting q.answer.number) (as-refused (bytes n k s l)) more p e in
+      let counted = count-turn n k s l asAccepted (λ (q : Posted). accepting q.answer.number) (as-accepted (bytes n k s l)) more p e in
+      let others = count-turn n k s l asRefused (λ (q : Posted). 1 - accepting q.answer.number) (as-refused (bytes n k s l)) more p e in
       rw z
       (record {
         within = omega arith;
@@ -57,7 +57,7 @@ module _ (new : Bool) (s : List ℕ) (n : ℕ) (l : Ledger) (accepted refused k 
         same = run-turn n k s l more p e ∙ r.same;
       })
 
-  all-posted : n ≤ k → (accepted ≡ count_of asAccepted (history (fresh new) (entriesOf s))) × (refused ≡ count_of asRefused (history (fresh new) (entriesOf s))) × (l ≡ run (fresh new) (entriesOf s))
+  all-posted : n ≤ k → (accepted ≡ countOf asAccepted (history (fresh new) (entriesOf s))) × (refused ≡ countOf asRefused (history (fresh new) (entriesOf s))) × (l ≡ run (fresh new) (entriesOf s))
   all-posted h =
       let none = count-over n k s l asAccepted h in
       let neither = count-over n k s l asRefused h in
@@ -70,7 +70,7 @@ post_all_spec =
     invariant-loop
     decreases-loop
     (λ c κs. search rules)
-    (λ c. search at_first)
+    (λ c. search at-first)
     (λ c. search rules)
     (λ c. search rules)
     (λ c. search rules)

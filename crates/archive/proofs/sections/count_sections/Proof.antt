@@ -25,8 +25,8 @@ invariant-loop list n at₀ count₀ at count = Rest list n at count
 abbrev decreases-loop : tie.decreases-loop-at
 decreases-loop list n at₀ count₀ at count = n - at
 
-at_first : (s : List ℕ) → Rest s (length s) 0 0
-at_first s = record { within = omega arith; all = refl; multiple = refl; small = omega arith; same = omega arith }
+at-first : (s : List ℕ) → Rest s (length s) 0 0
+at-first s = record { within = omega arith; all = refl; multiple = refl; small = omega arith; same = omega arith }
 
 module _ (s : List ℕ) (n at count : ℕ) (r : Rest s n at count) where
   counted : n ≤ at → count ≡ length (sectionsOf (entriesOf s))
@@ -56,7 +56,7 @@ count_sections_spec =
     (tie.spec
     invariant-loop
     decreases-loop
-    (λ c. search at_first)
+    (λ c. search at-first)
     (λ c. search rules)
     (λ c. search rules)
     (λ c. search rules)

@@ -24,22 +24,22 @@ invariant-loop list n k₀ k = Rest list n k
 abbrev decreases-loop : tie.decreases-loop-k
 decreases-loop list n k₀ k = n - k
 
-at_first : (s : List ℕ) → Rest s (length s / 32) 0
+at-first : (s : List ℕ) → Rest s (length s / 32) 0
 unfolding entriesOf
-at_first s =
+at-first s =
     let z : length s / 32 - 0 ≡ length s / 32 = omega arith in
     record { within = omega arith; all = refl; same = rw z (omega arith) }
 
 module _ (s : List ℕ) (n k : ℕ) (r : Rest s n k) where
-  no_end : length s % 32 ≡ 0 → n ≤ k → length s ≡ length (get_or (sectionsOf (entriesOf s)) 0 [])
-  no_end w h = rw (first-size s w) (omega (arith, lead-end n k (drop (32 * k) s) h))
+  no-end : length s % 32 ≡ 0 → n ≤ k → length s ≡ length (get_or (sectionsOf (entriesOf s)) 0 [])
+  no-end w h = rw (first-size s w) (omega (arith, lead-end n k (drop (32 * k) s) h))
 
   module _ (more : k < n) (closes : Bool) (e : closes ≡ closesMonth (take (32 * k + 32 - 32 * k) (drop (32 * k) s))) where
     ends : length s % 32 ≡ 0 → closes ≡ true → 32 * k + 32 ≡ length (get_or (sectionsOf (entriesOf s)) 0 [])
     ends w t = rw (first-size s w) (omega (arith, lead-here n k s more (sym e ∙ t)))
 
-    goes_on : closes ≡ false → (j : ℕ) → j ≡ k + 1 → Rest s n j
-    goes_on t j i = rw i (record { within = omega arith; all = r.all; same = omega (arith, lead-later n k s more (sym e ∙ t)) })
+    goes-on : closes ≡ false → (j : ℕ) → j ≡ k + 1 → Rest s n j
+    goes-on t j i = rw i (record { within = omega arith; all = r.all; same = omega (arith, lead-later n k s more (sym e ∙ t)) })
 
 pub first_section_spec : {M : Type 1} → statement M
 first_section_spec =
@@ -47,7 +47,7 @@ first_section_spec =
     (tie.spec
     invariant-loop
     decreases-loop
-    (λ c. search at_first)
+    (λ c. search at-first)
     (λ c. search rules)
     (λ c. search rules)
     (λ c. search rules)
@@ -57,5 +57,5 @@ first_section_spec =
     (λ c. search ends)
     (λ c. search rules)
     (λ c. search rules)
-    (λ c. search goes_on)
-    (λ c. search no_end))
+    (λ c. search goes-on)
+    (λ c. search no-end))

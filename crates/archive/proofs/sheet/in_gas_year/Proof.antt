@@ -1,7 +1,7 @@
 -- From April on the gas year is the date's own year, before it the one before: no year is before year 0.
 use Rattle.ledger.specs.Entries.{halfAt}
 use Rattle.archive.specs.YearSheet.{inGasYear}
-use Rattle.ledger.specs.Entries.{entry_of}
+use Rattle.ledger.specs.Entries.{entryOf}
 use Rattle.ledger.proofs.Fields.{year-half, month-byte}
 use borrow.Author.Tests.{le-leb, lt-leb, ne_eqb}
 use native.Mathlib.Numerals.{add-one}
@@ -23,18 +23,18 @@ before (suc n) year h =
     rw (p, add-one year) (sym (eqb-suc-suc n year))
 
 module _ (s : List ℕ) (year dated : ℕ) (h : length s ≡ 32) (p : dated ≡ halfAt s 4) where
-  date : (entry_of s).date.year ≡ dated
+  date : (entryOf s).date.year ≡ dated
   date = year-half s ∙ sym p
 
-  from-april : 4 ≤ get_or s 6 0 → eqb dated year ≡ inGasYear year (entry_of s).date
+  from-april : 4 ≤ get_or s 6 0 → eqb dated year ≡ inGasYear year (entryOf s).date
   unfolding inGasYear
   from-april m = rw (date, month-byte s, le-leb 4 (get_or s 6 0) m)
 
-  year-zero : get_or s 6 0 < 4 → dated ≡ 0 → false ≡ inGasYear year (entry_of s).date
+  year-zero : get_or s 6 0 < 4 → dated ≡ 0 → false ≡ inGasYear year (entryOf s).date
   unfolding inGasYear
   year-zero m z = rw (date, month-byte s, lt-leb 4 (get_or s 6 0) m) (sym (ne_eqb dated (year + 1) (λ e. omega arith)))
 
-  to-march : get_or s 6 0 < 4 → (dated ≡ 0 → ⊥) → eqb (dated - 1) year ≡ inGasYear year (entry_of s).date
+  to-march : get_or s 6 0 < 4 → (dated ≡ 0 → ⊥) → eqb (dated - 1) year ≡ inGasYear year (entryOf s).date
   unfolding inGasYear
   to-march m d = rw (date, month-byte s, lt-leb 4 (get_or s 6 0) m) (before dated year d)
 

@@ -1,8 +1,8 @@
 -- Each test that fails leaves the sheet, for no column is then the month of this closing; past all of them its column is filled.
 use Rattle.archive.proofs.Grids.{same-columns}
-use Rattle.archive.specs.YearSheet.{grid, cell_at, bankIn, inGasYear, closesIn}
+use Rattle.archive.specs.YearSheet.{grid, cellAt, bankIn, inGasYear, closesIn}
 use Rattle.archive.specs.Entries.{closesMonth}
-use Rattle.ledger.specs.Entries.{entry_of}
+use Rattle.ledger.specs.Entries.{entryOf}
 use Rattle.ledger.proofs.Fields.{month-byte}
 use Rattle.tariff.specs.Months.{gasMonth}
 use mathlib.Core.Path.{◌≡◌, ap, ◌∙◌}
@@ -28,7 +28,7 @@ module _ (year number : ℕ) (e : List ℕ) where
     unfolding closesIn
     other-kind t m = cc (not-true closes t)
 
-    module _ (k : not closes ≡ false) (within : Bool) (q : within ≡ inGasYear year (entry_of e).date) where
+    module _ (k : not closes ≡ false) (within : Bool) (q : within ≡ inGasYear year (entryOf e).date) where
       other-year : not within ≡ true → (m : ℕ) → false ≡ closesIn year m number e
       unfolding closesIn
       other-year t m = cc (not-false closes k, not-true within t)
@@ -42,10 +42,10 @@ module _ (s : tie.Start) where
   closing m = closesIn s.args.year m s.args.number s.args.entry.now
 
   column : (p : ℕ → Bool) → ((m : ℕ) → p m ≡ closing m)
-      → grid (λ i m. cond (p m) (bankIn s.args.ledger i) (cell_at s.args.sheet i m)) ≡ grid (λ i m. cond (closing m) (bankIn s.args.ledger i) (cell_at s.args.sheet i m))
-  column p h = same-columns (bankIn s.args.ledger) (cell_at s.args.sheet) p closing h
+      → grid (λ i m. cond (p m) (bankIn s.args.ledger i) (cellAt s.args.sheet i m)) ≡ grid (λ i m. cond (closing m) (bankIn s.args.ledger i) (cellAt s.args.sheet i m))
+  column p h = same-columns (bankIn s.args.ledger) (cellAt s.args.sheet) p closing h
 
-  unchanged : ((m : ℕ) → false ≡ closing m) → s.args.sheet ≡ grid (λ i m. cond (closing m) (bankIn s.args.ledger i) (cell_at s.args.sheet i m))
+  unchanged : ((m : ℕ) → false ≡ closing m) → s.args.sheet ≡ grid (λ i m. cond (closing m) (bankIn s.args.ledger i) (cellAt s.args.sheet i m))
   unchanged h = s.requires.0 ∙ column (λ m. false) h
 
 pub noted_spec : {M : Type 1} → statement M

@@ -7,7 +7,7 @@ use mathlib.Core.List.{List}
 use mathlib.Core.Path.{◌≡◌, ap, ◌∙◌}
 use lib.Seq.{paste, length-paste}
 use lib.ListN.{length}
-use Rattle.archive.specs.Layout.{sectionsOf, header, directory, body_at}
+use Rattle.archive.specs.Layout.{sectionsOf, header, directory, bodyAt}
 use Rattle.archive.specs.Entries.{entriesOf}
 use Rattle.archive.proofs.Directories.{length-directory}
 use Rattle.archive.proofs.Headers.{length-header}
@@ -38,9 +38,9 @@ module _ (new : Bool) (list d x : List ℕ) (n : ℕ) (w : Planned list (length 
   pairs-fit : 8 + 8 * n ≤ length x
   pairs-fit = omega (arith, w, headed)
 
-  list-fits : (y : List ℕ) → y ≡ paste x 8 (directory (body_at n) (sectionsOf (entriesOf list))) (8 * n) → 8 + 8 * n + length list ≤ length y
+  list-fits : (y : List ℕ) → y ≡ paste x 8 (directory (bodyAt n) (sectionsOf (entriesOf list))) (8 * n) → 8 + 8 * n + length list ≤ length y
   list-fits y hy =
-      let same = ap length hy ∙ length-paste x 8 (directory (body_at n) (sectionsOf (entriesOf list))) (8 * n) pairs-fit (omega (arith, length-directory (body_at n) (sectionsOf (entriesOf list)))) in
+      let same = ap length hy ∙ length-paste x 8 (directory (bodyAt n) (sectionsOf (entriesOf list))) (8 * n) pairs-fit (omega (arith, length-directory (bodyAt n) (sectionsOf (entriesOf list)))) in
       omega (arith, w, headed)
 
 pub put_archive_spec : {M : Type 1} → statement M

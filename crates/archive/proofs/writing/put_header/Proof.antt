@@ -6,12 +6,12 @@ use mathlib.Core.List.{[], ◌∷◌, ◌++◌}
 use lib.Seq.{sets-eq}
 use lib.ListN.{length-set}
 use Rattle.archive.specs.Layout.{openingBytes, header}
-use Rattle.archive.specs.Words.{bytes_of}
+use Rattle.archive.specs.Words.{bytesOf}
 use Rattle.archive.proofs.writing.put_header.Statement.{statement}
 use Rattle.archive.proofs.writing.put_header.Tie as tie
 
 returns : tie.Need-returns
-unfolding header bytes_of
+unfolding header bytesOf
 returns c =
     let s : tie.Start = search in
     let n = s.args.count in

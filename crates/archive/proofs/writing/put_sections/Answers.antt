@@ -10,8 +10,8 @@ use Rattle.archive.proofs.Splits.{FirstAt, first-at, rest-whole}
 use Rattle.archive.proofs.writing.put_sections.Goals as goal
 use Rattle.archive.proofs.writing.put_sections.Invariants.{Rest}
 
-at_first : (d s : List ℕ) (body : ℕ) → Rest d s d body (length s) 0
-at_first d s body = record { within = omega arith; all = refl; multiple = refl; copied = paste-zero d body s; long = refl }
+at-first : (d s : List ℕ) (body : ℕ) → Rest d s d body (length s) 0
+at-first d s body = record { within = omega arith; all = refl; multiple = refl; copied = paste-zero d body s; long = refl }
 
 module _ (d s x : List ℕ) (body n at : ℕ) (r : Rest d s x body n at) where
   all-put : n ≤ at → x ≡ paste d body s (length s)
@@ -37,7 +37,7 @@ module _ (d s x : List ℕ) (body n at : ℕ) (r : Rest d s x body n at) where
         })
 
 pub loop-at-init : goal.loop-at-init
-loop-at-init c = search at_first
+loop-at-init c = search at-first
 
 pub overflow_add-end : goal.overflow_add-end
 overflow_add-end c = let f : FirstAt c.args.list.now c.loop-at.at c.first_section-size.result = search (first-at, arith) in omega (arith, f)

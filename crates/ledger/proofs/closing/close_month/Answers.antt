@@ -8,11 +8,11 @@ use Rattle.ledger.specs.State.{withBank, withDays, withExcuse, withMonth, withTo
 use Rattle.ledger.proofs.closing.close_month.Goals as goal
 
 pub limit-limit-requires : goal.limit-limit-requires
-limit-limit-requires c = (bounded c.args.a c.requires.d_value.1).bcq
+limit-limit-requires c = (bounded c.args.a c.requires.closing.1).bcq
 
 pub capacity-capacity-requires : goal.capacity-capacity-requires
 capacity-capacity-requires c =
-    (c.requires.t_value.0, rw (c.settled-step.ensures, settled-k c.args.a.step) (stepped c.args.a c.requires.d_value.1 c.requires.d_value.2).pending.1)
+    (c.requires.ranged.0, rw (c.settled-step.ensures, settled-k c.args.a.step) (stepped c.args.a c.requires.closing.1 c.requires.closing.2).pending.1)
 
 pub bill-bill-requires : goal.bill-bill-requires
 bill-bill-requires c = let d : Closable c.day_end-day.result = rw c.day_end-day.ensures (search closable) in search (rules, d)

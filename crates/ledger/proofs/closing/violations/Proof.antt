@@ -4,7 +4,7 @@ use Prim.Native.Nat.{ℕ}
 use mathlib.Core.Bool.{Bool}
 use mathlib.Core.Path.{◌≡◌}
 use native.Mathlib.Omega.{arith}
-use Rattle.tariff.specs.Closing.{breaksV3, breaksV4, breaksV5, breaksV6, breaksV7, breaksV8, mask_of}
+use Rattle.tariff.specs.Closing.{breaksV3, breaksV4, breaksV5, breaksV6, breaksV7, breaksV8, maskOf}
 use Rattle.ledger.specs.Structs.{Account, Date, Quantity}
 use Rattle.ledger.proofs.Bounded.{Bounded, bounded}
 use Rattle.ledger.specs.Closing.{limitOf, violationsOf}
@@ -15,7 +15,7 @@ known : (s : tie.Start) → Bounded s.args.a
 known s = bounded s.args.a s.requires.1
 
 masked : (d : Date) (a : Account) (limit : Quantity) (v3 v4 v5 v6 v7 v8 : Bool) (mask : ℕ)
-    → mask ≡ mask_of a.today.v1 a.today.v2 v3 v4 v5 v6 v7 v8
+    → mask ≡ maskOf a.today.v1 a.today.v2 v3 v4 v5 v6 v7 v8
     → v3 ≡ breaksV3 d.month a.capacity.bcq a.month.totals.net → v4 ≡ breaksV4 d.month limit a.month.totals.net → limit ≡ limitOf d a
     → v5 ≡ breaksV5 d a.capacity.bcq a.month.totals.net → v6 ≡ breaksV6 d a.capacity.bcq a.bank
     → v7 ≡ breaksV7 a.bank → v8 ≡ breaksV8 a.excused a.capacity.bcq a.bank

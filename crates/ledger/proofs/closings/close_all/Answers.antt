@@ -5,7 +5,7 @@ use mathlib.Core.Path.{◌∙◌, ◌≡◌, refl, sym}
 use mathlib.Core.Bool.{true}
 use Prim.Native.Nat.{ℕ, ◌<◌}
 use lib.ListN.{length, replicate}
-use Rattle.ledger.proofs.Admitted.{is-begun, is-ranged, is_real, is_right}
+use Rattle.ledger.proofs.Admitted.{is-begun, is-ranged, is-real, is-right}
 use Rattle.ledger.proofs.Bounded.{account-ranged, begun-ranged}
 use Rattle.ledger.proofs.Lists.{every-end, filled-end, length-mapped}
 use Rattle.ledger.proofs.RightEntries.{prices-fit}
@@ -18,7 +18,7 @@ use Rattle.tariff.specs.Terms.{termsInRange}
 use Rattle.ledger.specs.Kinds.{TERMS}
 use Rattle.ledger.specs.Posting.{admission}
 use Rattle.ledger.specs.Structs.{Entry, Ledger}
-use Rattle.ledger.proofs.ClosedSoFar.{Ready, open-complete, open-reported, open-stored, open_stays, shut-complete, shut-reported, shut-stays, shut-stored}
+use Rattle.ledger.proofs.ClosedSoFar.{Ready, open-complete, open-reported, open-stored, open-stays, shut-complete, shut-reported, shut-stays, shut-stored}
 use Rattle.ledger.proofs.closings.close_all.Goals as goal
 use Rattle.ledger.proofs.closings.close_all.Goals.{then-a, else-a}
 
@@ -31,16 +31,16 @@ module _ (l : Ledger) (e : Entry) (h : admission l e ≡ 0) where
   ranged n i j = account-ranged l i n j (is-ranged l e h)
 
 pub last_of_month-ends-requires : goal.last_of_month-ends-requires
-last_of_month-ends-requires c = is_real c.args.l c.args.e c.requires.0
+last_of_month-ends-requires c = is-real c.args.l c.args.e c.requires.0
 
 pub on_measurement_day-reads-requires : goal.on_measurement_day-reads-requires
-on_measurement_day-reads-requires c = is_real c.args.l c.args.e c.requires.0
+on_measurement_day-reads-requires c = is-real c.args.l c.args.e c.requires.0
 
 pub day_after-tomorrow-requires : goal.day_after-tomorrow-requires
-day_after-tomorrow-requires c = is_real c.args.l c.args.e c.requires.0
+day_after-tomorrow-requires c = is-real c.args.l c.args.e c.requires.0
 
 pub still_held-kept-requires : goal.still_held-kept-requires
-still_held-kept-requires c = is_real c.args.l c.args.e c.requires.0
+still_held-kept-requires c = is-real c.args.l c.args.e c.requires.0
 
 pub loop-i-init : goal.loop-i-init
 unfolding heldIn
@@ -54,14 +54,14 @@ loop-i-init c =
       reads = c.on_measurement_day-reads.ensures;
     }
 
-pub close_account-one-requires-clause-date_value : goal.close_account-one-requires-clause-date_value
+pub close_account-one-requires-clause-admitted : goal.close_account-one-requires-clause-admitted
 unfolding nobody noTotals noMonth noToday accountAt
-close_account-one-requires-clause-date_value c =
+close_account-one-requires-clause-admitted c =
     let sixteen : length c.args.l.accounts ≡ 16 = search (rules, length-mapped) in (
-      is_real c.args.l c.args.e c.requires.0,
+      is-real c.args.l c.args.e c.requires.0,
       ranged c.args.l c.args.e c.requires.0 sixteen c.loop-i.i c.loop-i-test.true,
       in-force c.args.l c.args.e c.requires.0 c.requires.1,
-      prices-fit c.args.e (is_right c.args.l c.args.e c.requires.0),
+      prices-fit c.args.e (is-right c.args.l c.args.e c.requires.0),
     )
 
 pub loop-i-preserved : goal.loop-i-preserved
@@ -76,7 +76,7 @@ loop-i-preserved c =
         stored = open-stored c.args.l c.args.e c.loop-i.i sixteen below c.loop-i.next _ _ w.next-is so_far.stored w.close_account-one.ensures;
         reported = open-reported c.args.l c.args.e c.loop-i.i sixteen below c.loop-i.reports _ _ w.reports-is so_far.reported w.close_account-one.ensures;
         complete = open-complete c.args.l c.args.e c.loop-i.i sixteen below c.loop-i.complete _ _ _ _ so_far.complete w.ready-had.ensures so_far.ends so_far.reads w.complete-is;
-        fits = open_stays c.args.l c.args.e c.loop-i.i sixteen below c.loop-i.fits _ _ _ _ w.fits-is so_far.fits w.account_in_range.ensures w.account_in_range-then-a.ensures w.close_account-one.ensures;
+        fits = open-stays c.args.l c.args.e c.loop-i.i sixteen below c.loop-i.fits _ _ _ _ w.fits-is so_far.fits w.account_in_range.ensures w.account_in_range-then-a.ensures w.close_account-one.ensures;
         ends = so_far.ends;
         reads = so_far.reads;
       }

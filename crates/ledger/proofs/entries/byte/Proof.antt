@@ -2,7 +2,7 @@
 use borrow.Author.Rules.{rules}
 use native.Mathlib.Omega.{arith}
 use mathlib.Core.Path.{refl}
-use Rattle.ledger.specs.Entries.{byte_at}
+use Rattle.ledger.specs.Entries.{byteAt}
 use Rattle.ledger.proofs.entries.byte.Statement.{statement}
 use Rattle.ledger.proofs.entries.byte.Tie as tie
 
@@ -10,7 +10,7 @@ cast-result : tie.Need-overflow_cast-result
 cast-result c = let s : tie.Start = search in omega (arith, c.shared_slice_known-1.given s.args.at)
 
 returns : tie.Need-returns
-unfolding byte_at
+unfolding byteAt
 returns c = let s : tie.Start = search in (refl, omega (arith, c.shared_slice_known-1.given s.args.at))
 
 pub byte_spec : {M : Type 1} → statement M

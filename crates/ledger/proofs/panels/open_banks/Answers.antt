@@ -37,7 +37,7 @@ loop-i-preserved c =
     let sixteen : length c.args.l.accounts ≡ 16 = search (rules, length-mapped) in
     record {
       whole =
-          rw (c.plus-figure.ensures.value, sum-value c.loop-i.figure c.open_bank-bank.result, c.open_bank-bank.ensures.result_value)
+          rw (c.plus-figure.ensures.value, sum-value c.loop-i.figure c.open_bank-bank.result, c.open_bank-bank.ensures.value)
           (sym (banks-next c.args.l.accounts c.loop-i.i nobody c.loop-i.figure.0 (omega (arith, sixteen))) ∙ c.loop-i.invariant.whole);
       small = omega (arith, c.plus-figure.ensures.bounded, one-bank (search), c.loop-i.invariant.small);
     }

@@ -4,20 +4,20 @@ use mathlib.Core.Bool.{Bool, true, ◌&&◌, cond, not}
 use mathlib.Core.Path.{◌∙◌, ◌≡◌, sym}
 use lib.Dec.{eqb}
 use Rattle.ledger.proofs.Admitted.{admission-own, admission-standing, own-right}
-use Rattle.ledger.proofs.RightEntries.{is_real}
+use Rattle.ledger.proofs.RightEntries.{is-real}
 use Rattle.tariff.specs.Dates.{real, sameDate}
 use Rattle.tariff.specs.Holidays.{heldDates}
 use Rattle.ledger.specs.Structs.{Date, Entry, Holidays, Ledger}
 use Rattle.ledger.specs.Checks.{verdict}
 use Rattle.ledger.specs.Forms.{entryNumber}
-use Rattle.ledger.specs.Ranges.{in_range}
+use Rattle.ledger.specs.Ranges.{inRange}
 use Rattle.ledger.specs.Days.{wrongDay}
 use Rattle.ledger.specs.Posting.{admission, standingChecks}
 use Rattle.ledger.specs.State.{heldIn}
 use Rattle.ledger.proofs.postings.admission.Goals as goal
 
 module _ (fits begun touched new : Bool) (today : Date) (held : Holidays) (e : Entry) (n : ℕ) (p : n ≡ entryNumber new e) (l : Ledger)
-    (f : in_range l ≡ fits) (b : l.begun ≡ begun) (t : l.touched ≡ touched) (i : l.is_new ≡ new) (d : l.date ≡ today) (h : l.holidays ≡ held) where
+    (f : inRange l ≡ fits) (b : l.begun ≡ begun) (t : l.touched ≡ touched) (i : l.is_new ≡ new) (d : l.date ≡ today) (h : l.holidays ≡ held) where
   own : n ≡ entryNumber l.is_new e
   own = rw i p
 
@@ -32,7 +32,7 @@ module _ (fits begun touched new : Bool) (today : Date) (held : Holidays) (e : E
   judged z same day n₁ n₂ n₃ n₄ q₄ q₃ q₂ q₁ w s = cc (admission-standing l e (sym own ∙ z))
 
 dated : (new : Bool) (e : Entry) (n : ℕ) → n ≡ entryNumber new e → n ≡ 0 → real e.date ≡ true
-dated new e n p z = is_real e (own-right new e (sym p ∙ z))
+dated new e n p z = is-real e (own-right new e (sym p ∙ z))
 
 pub wrong_day-wrong-requires : goal.wrong_day-wrong-requires
 wrong_day-wrong-requires c = search dated

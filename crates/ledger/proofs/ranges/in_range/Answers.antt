@@ -4,12 +4,12 @@ use native.Mathlib.Omega.{arith}
 use mathlib.Core.Path.{◌∙◌, ◌≡◌, sym}
 use lib.ListN.{length}
 use Rattle.ledger.proofs.Lists.{every-end, every-next, length-mapped}
-use Rattle.ledger.specs.Ranges.{accountInRange, in_range}
+use Rattle.ledger.specs.Ranges.{accountInRange, inRange}
 use Rattle.ledger.specs.State.{noMonth, noToday, noTotals, nobody}
 use Rattle.ledger.proofs.ranges.in_range.Goals as goal
 
 pub loop-i-init : goal.loop-i-init
-unfolding in_range
+unfolding inRange
 loop-i-init c = cc
 
 pub loop-i-preserved : goal.loop-i-preserved

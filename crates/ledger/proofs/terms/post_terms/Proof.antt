@@ -5,7 +5,7 @@ use mathlib.Core.Bool.{Bool, cond, not}
 use mathlib.Core.Path.{◌≡◌}
 use Rattle.ledger.specs.Answers.{settle}
 use Rattle.ledger.specs.Checks.{verdict}
-use Rattle.ledger.specs.Ranges.{in_range}
+use Rattle.ledger.specs.Ranges.{inRange}
 use Rattle.ledger.specs.Terms.{postTerms, termsChecks, termsNext}
 use Rattle.ledger.specs.Structs.{Entry, Ledger, Posted}
 use Rattle.ledger.proofs.terms.post_terms.Statement.{statement}
@@ -13,7 +13,7 @@ use Rattle.ledger.proofs.terms.post_terms.Tie as tie
 
 judged : (l next : Ledger) (e : Entry) (fits : Bool) (n : ℕ) (r : Posted)
     → r ≡ settle l n next → n ≡ cond (not fits) 29 0
-    → fits ≡ in_range next → next ≡ termsNext l e
+    → fits ≡ inRange next → next ≡ termsNext l e
     → r ≡ postTerms l e
 unfolding postTerms termsChecks verdict
 judged l next e fits n r z q₁ q p = cc

@@ -3,10 +3,10 @@ use borrow.Author.Rules.{rules}
 use native.Mathlib.Omega.{arith}
 use mathlib.Core.Path.{◌≡◌, refl}
 use lib.ListN.{length}
-use Rattle.ledger.proofs.Admitted.{is-ranged, is_right}
+use Rattle.ledger.proofs.Admitted.{is-ranged, is-right}
 use Rattle.ledger.proofs.Bounded.{account-ranged}
 use Rattle.ledger.proofs.RightEntries.{terms-fit}
-use Rattle.ledger.proofs.Lists.{filled-end, filled_next, length-mapped}
+use Rattle.ledger.proofs.Lists.{filled-end, filled-next, length-mapped}
 use Rattle.ledger.specs.State.{accountAt, noMonth, noToday, noTotals, nobody}
 use Rattle.ledger.specs.Terms.{reworked, termsNext}
 use Rattle.ledger.proofs.terms.terms_next.Goals as goal
@@ -15,7 +15,7 @@ pub reworked-b-requires : goal.reworked-b-requires
 unfolding nobody noTotals noMonth noToday accountAt
 reworked-b-requires c =
     let sixteen : length c.args.l.accounts ≡ 16 = search (rules, length-mapped) in (
-      rw c.terms-terms.ensures (terms-fit c.args.e (is_right c.args.l c.args.e c.requires.0) c.requires.1),
+      rw c.terms-terms.ensures (terms-fit c.args.e (is-right c.args.l c.args.e c.requires.0) c.requires.1),
       account-ranged c.args.l c.loop-i.i sixteen (omega arith) (is-ranged c.args.l c.args.e c.requires.0),
     )
 
@@ -27,7 +27,7 @@ unfolding nobody noTotals noMonth noToday
 loop-i-preserved c =
     let sixteen : length c.args.l.accounts ≡ 16 = search (rules, length-mapped) in
     let xs = c.args.l.accounts in
-    rw (c.loop-i.invariant, c.reworked-b.ensures, filled_next (reworked c.terms-terms.result) xs xs c.loop-i.i nobody (omega arith) (omega (arith, sixteen)))
+    rw (c.loop-i.invariant, c.reworked-b.ensures, filled-next (reworked c.terms-terms.result) xs xs c.loop-i.i nobody (omega arith) (omega (arith, sixteen)))
 
 pub returns : goal.returns
 unfolding termsNext

@@ -6,12 +6,12 @@ use mathlib.Core.Bool.{cond, not, ◌&&◌, ◌||◌}
 use Prim.Native.Nat.{ℕ, ◌<◌, ◌≤◌}
 use lib.Dec.{eqb}
 use Rattle.ledger.proofs.RightEntries.{a-fits, b-fits, transfer-fits}
-use Rattle.ledger.proofs.Admitted.{is-ranged, is_right}
+use Rattle.ledger.proofs.Admitted.{is-ranged, is-right}
 use Rattle.ledger.proofs.Bounded.{Bounded, account-ranged, bounded}
 use Rattle.ledger.proofs.Lists.{length-mapped}
 use Rattle.ledger.specs.Answers.{settle}
 use Rattle.ledger.specs.Checks.{verdict}
-use Rattle.ledger.specs.Kinds.{TRANSFER, kind_of, lookup}
+use Rattle.ledger.specs.Kinds.{TRANSFER, kindOf, lookup}
 use lib.ListN.{length}
 use Rattle.ledger.specs.Posting.{admission}
 use Rattle.ledger.specs.State.{accountAt, noMonth, noToday, noTotals, nobody, withAccount}
@@ -28,10 +28,10 @@ record Transfer (l : Ledger) (e : Entry) : Type 0 where
   gets : Bounded (accountAt l e.b)
 
 transfer : (l : Ledger) (e : Entry) → length l.accounts ≡ 16 → admission l e ≡ 0 → e.kind ≡ TRANSFER → Transfer l e
-unfolding kind_of lookup
+unfolding kindOf lookup
 transfer l e n z is =
-    let h = is_right l e z in
-    let two : (kind_of e.kind).accounts ≡ 2 = rw is in
+    let h = is-right l e z in
+    let two : (kindOf e.kind).accounts ≡ 2 = rw is in
     let i : e.a < 16 = a-fits e h (omega arith) in
     let j : e.b < 16 = b-fits e h (omega arith) in
     record {

@@ -12,10 +12,10 @@ use Rattle.tariff.proofs.dates.month_length.Statement.{statement}
 use Rattle.tariff.proofs.dates.month_length.Tie as tie
 
 module _ (year : ℕ) (m : Month) where
-  its_own : (t : Bool) → t ≡ leap year → m.0 ≡ 2 → cond t 29 28 ≡ monthLength year m
+  its-own : (t : Bool) → t ≡ leap year → m.0 ≡ 2 → cond t 29 28 ≡ monthLength year m
   unfolding monthLength
-  its_own true l e = rw (e, lengths-are year, sym l)
-  its_own false l e = rw (e, lengths-are year, sym l)
+  its-own true l e = rw (e, lengths-are year, sym l)
+  its-own false l e = rw (e, lengths-are year, sym l)
 
   by-turns : 1 ≤ m.0 → m.0 ≤ 12 → (m.0 ≡ 2 → ⊥) → 30 + (m.0 + m.0 / 8) % 2 ≡ monthLength year m
   unfolding monthLength
@@ -28,7 +28,7 @@ module _ (year : ℕ) (m : Month) where
   answer long february length l h e₁ e₂ e₃ = e₃ ∙ go (eqb m.0 2) refl
     where
       go : (t : Bool) → eqb m.0 2 ≡ t → cond t february (30 + (m.0 + m.0 / 8) % 2) ≡ monthLength year m
-      go true e = e₂ ∙ its_own long e₁ (eqb-true m.0 2 e)
+      go true e = e₂ ∙ its-own long e₁ (eqb-true m.0 2 e)
       go false e = by-turns l h (eqb-false m.0 2 e)
 
 pub month_length_spec : {M : Type 1} → statement M

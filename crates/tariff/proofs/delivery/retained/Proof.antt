@@ -6,7 +6,7 @@ use native.Mathlib.Omega.{arith}
 use lib.IntN.{pos}
 use borrow.Author.Rules.{rules}
 use Rattle.tariff.proofs.Results.{retained-le}
-use Rattle.tariff.proofs.Signed.{difference-fits, product-fits, quotient_fits, quotient-read}
+use Rattle.tariff.proofs.Signed.{difference-fits, product-fits, quotient-fits, quotient-read}
 use Rattle.tariff.specs.Delivery.{retained}
 use Rattle.tariff.proofs.delivery.retained.Statement.{statement}
 use Rattle.tariff.proofs.delivery.retained.Tie as tie
@@ -24,4 +24,4 @@ retained_spec =
     (tie.spec
     (search rules) (search rules) (search rules) (search rules)
     (λ c. let s : tie.Start = search in difference-fits (pos s.args.delivered.0) (pos s.args.back_cast.0) (omega arith))
-    (λ c. search (product-fits, sub-le)) (λ c. (search rules, search (quotient_fits, sub-le))) returns)
+    (λ c. search (product-fits, sub-le)) (λ c. (search rules, search (quotient-fits, sub-le))) returns)

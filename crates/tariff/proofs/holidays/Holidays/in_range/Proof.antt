@@ -12,7 +12,7 @@ use Rattle.tariff.specs.Dates.{real}
 use Rattle.tariff.specs.Holidays.{allLeaveOne, heldDates, holidaysInRange, leavesOne}
 use Rattle.tariff.specs.Structs.{Date, Holidays}
 use Rattle.tariff.proofs.Arrays.{length-mapped}
-use Rattle.tariff.proofs.HeldDates.{Walked, none-to-come, to-come, walked_next}
+use Rattle.tariff.proofs.HeldDates.{Walked, none-to-come, to-come, walked-next}
 use Rattle.tariff.proofs.holidays.Holidays.in_range.Statement.{statement}
 use Rattle.tariff.proofs.holidays.Holidays.in_range.Tie as tie
 
@@ -21,29 +21,29 @@ record Rest (h : Holidays) (n : ℕ) (ok : Bool) (i : ℕ) : Type 0 where
   whole : ok && allLeaveOne (heldDates h) (drop i (heldDates h)) ≡ holidaysInRange h
 
 module _ (h : Holidays) (n : ℕ) where
-  at_first : length h.dates ≡ 16 → n ≡ min h.count 16 → Rest h n (leb h.count 16) 0
+  at-first : length h.dates ≡ 16 → n ≡ min h.count 16 → Rest h n (leb h.count 16) 0
   unfolding holidaysInRange
-  at_first s e = record { walked = record { sized = s; places = e; within = omega arith }; whole = refl }
+  at-first s e = record { walked = record { sized = s; places = e; within = omega arith }; whole = refl }
 
   module _ (ok : Bool) (i : ℕ) (r : Rest h n ok i) where
     -- the date in hand
-    whole_here : (e : Date) → i < n
+    whole-here : (e : Date) → i < n
         → ok && ((real (get_or h.dates i e) && leavesOne (heldDates h) (get_or h.dates i e)) && allLeaveOne (heldDates h) (drop (i + 1) (heldDates h))) ≡ holidaysInRange h
     unfolding allLeaveOne
-    whole_here e l = ap (λ (ds : List Date). ok && allLeaveOne (heldDates h) ds) (sym (to-come h n i r.walked e l)) ∙ r.whole
+    whole-here e l = ap (λ (ds : List Date). ok && allLeaveOne (heldDates h) ds) (sym (to-come h n i r.walked e l)) ∙ r.whole
 
     not-real : (e : Date) (t : Bool) → i < n → t ≡ real (get_or h.dates i e) → not t ≡ true → false ≡ holidaysInRange h
     not-real e t l is f =
         let no : real (get_or h.dates i e) ≡ false = sym is ∙ not-true t f in
-        sym (and-false ok) ∙ (rw no at (whole_here e l))
+        sym (and-false ok) ∙ (rw no at (whole-here e l))
 
-    one_more : (e : Date) (t left : Bool) (up : ℕ) → i < n → t ≡ real (get_or h.dates i e) → not t ≡ false → left ≡ leavesOne (heldDates h) (get_or h.dates i e) → up ≡ i + 1
+    one-more : (e : Date) (t left : Bool) (up : ℕ) → i < n → t ≡ real (get_or h.dates i e) → not t ≡ false → left ≡ leavesOne (heldDates h) (get_or h.dates i e) → up ≡ i + 1
         → Rest h n (ok && left) up
-    one_more e t left up l is f lv u =
+    one-more e t left up l is f lv u =
         let yes : real (get_or h.dates i e) ≡ true = sym is ∙ not-false t f in
         record {
-          walked = walked_next h n i r.walked up l u;
-          whole = rw (u, lv) (and_assoc ok (leavesOne (heldDates h) (get_or h.dates i e)) (allLeaveOne (heldDates h) (drop (i + 1) (heldDates h))) ∙ (rw yes at (whole_here e l)));
+          walked = walked-next h n i r.walked up l u;
+          whole = rw (u, lv) (and_assoc ok (leavesOne (heldDates h) (get_or h.dates i e)) (allLeaveOne (heldDates h) (drop (i + 1) (heldDates h))) ∙ (rw yes at (whole-here e l)));
         }
 
     ended : n ≤ i → ok ≡ holidaysInRange h
@@ -61,7 +61,7 @@ in_range_spec =
     tie.close
     (tie.spec invariant-loop decreases-loop
     (search rules)
-    (λ c. at_first _ _ (search (rules, length-mapped)) (search))
+    (λ c. at-first _ _ (search (rules, length-mapped)) (search))
     (λ c. let at : tie.At-loop-i invariant-loop decreases-loop = search in omega (arith, at.loop-i.invariant.walked))
     (λ c. let at : tie.At-loop-i invariant-loop decreases-loop = search in omega (arith, at.loop-i.invariant.walked))
     (search rules)
@@ -69,5 +69,5 @@ in_range_spec =
     (λ c κs. let t : tie.After-real invariant-loop decreases-loop = search in sym t.real.ensures ∙ not-false _ (search))
     (λ c. let at : tie.At-loop-i invariant-loop decreases-loop = search in omega (arith, at.loop-i.invariant.walked))
     (λ c. omega arith)
-    (λ c. let at : tie.At-loop-i invariant-loop decreases-loop = search in one_more _ _ _ _ at.loop-i.invariant _ _ _ _ (search) (let t : tie.After-real invariant-loop decreases-loop = search in t.real.ensures) (search) (let t : tie.After-leaves_one-left invariant-loop decreases-loop = search in t.leaves_one-left.ensures) refl)
+    (λ c. let at : tie.At-loop-i invariant-loop decreases-loop = search in one-more _ _ _ _ at.loop-i.invariant _ _ _ _ (search) (let t : tie.After-real invariant-loop decreases-loop = search in t.real.ensures) (search) (let t : tie.After-leaves_one-left invariant-loop decreases-loop = search in t.leaves_one-left.ensures) refl)
     (λ c. let at : tie.At-loop-i invariant-loop decreases-loop = search in ended _ _ _ _ at.loop-i.invariant (search)))

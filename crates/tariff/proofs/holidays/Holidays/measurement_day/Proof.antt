@@ -18,9 +18,9 @@ record ToCome (h : Holidays) (year : ℕ) (m : Month) (last day : ℕ) : Type 0 
   rest : firstBusinessDay (heldDates h) year m day (last + 1 - day) ≡ measurementDay (heldDates h) year m
 
 module _ (h : Holidays) (year : ℕ) (m : Month) (last : ℕ) where
-  at_first : 1 ≤ m.0 → m.0 ≤ 12 → last ≡ monthLength year m → ToCome h year m last 25
+  at-first : 1 ≤ m.0 → m.0 ≤ 12 → last ≡ monthLength year m → ToCome h year m last 25
   unfolding measurementDay
-  at_first l r e =
+  at-first l r e =
       let left : last + 1 - 25 ≡ monthLength year m - 24 = omega (arith, e) in
       record { ends = omega (arith, month-length-le year m); from = omega arith; within = omega (arith, month-length-ge year m l r); rest = rw left }
 
@@ -33,9 +33,9 @@ module _ (h : Holidays) (year : ℕ) (m : Month) (last : ℕ) where
     unfolding firstBusinessDay
     here works l e w = (rw (left l, sym e ∙ w) at t.rest)
 
-    one_more : (works : Bool) → day ≤ last → works ≡ businessDay (heldDates h) (dateOf year m day) → works ≡ false → ToCome h year m last (day + 1)
+    one-more : (works : Bool) → day ≤ last → works ≡ businessDay (heldDates h) (dateOf year m day) → works ≡ false → ToCome h year m last (day + 1)
     unfolding firstBusinessDay
-    one_more works l e f = record { ends = t.ends; from = omega (arith, t.from); within = omega arith; rest = (rw (left l, sym e ∙ f) at t.rest) }
+    one-more works l e f = record { ends = t.ends; from = omega (arith, t.from); within = omega arith; rest = (rw (left l, sym e ∙ f) at t.rest) }
 
     none : last < day → 0 ≡ measurementDay (heldDates h) year m
     unfolding firstBusinessDay
@@ -52,10 +52,10 @@ measurement_day_spec =
     tie.close
     (tie.spec invariant-loop decreases-loop
     (λ c κs. search rules)
-    (λ c. search at_first)
+    (λ c. search at-first)
     (λ c κs. let at : tie.At-loop-day invariant-loop decreases-loop = search in let s : tie.Start invariant-loop decreases-loop = search in omega (arith, s.requires, at.loop-day.invariant))
     (λ c. let at : tie.At-loop-day invariant-loop decreases-loop = search in here _ _ _ _ _ at.loop-day.invariant _ (search) (let b : tie.After-business_day-works invariant-loop decreases-loop = search in b.business_day-works.ensures) (search))
     (λ c. let at : tie.At-loop-day invariant-loop decreases-loop = search in omega (arith, at.loop-day.invariant))
     (λ c. let at : tie.At-loop-day invariant-loop decreases-loop = search in omega (arith, at.loop-day.invariant))
-    (λ c. let at : tie.At-loop-day invariant-loop decreases-loop = search in one_more _ _ _ _ _ at.loop-day.invariant _ (search) (let b : tie.After-business_day-works invariant-loop decreases-loop = search in b.business_day-works.ensures) (search))
+    (λ c. let at : tie.At-loop-day invariant-loop decreases-loop = search in one-more _ _ _ _ _ at.loop-day.invariant _ (search) (let b : tie.After-business_day-works invariant-loop decreases-loop = search in b.business_day-works.ensures) (search))
     (λ c. let at : tie.At-loop-day invariant-loop decreases-loop = search in none _ _ _ _ _ at.loop-day.invariant (search)))

@@ -10,7 +10,7 @@ use Rattle.tariff.specs.Dates.{sameDate}
 use Rattle.tariff.specs.Holidays.{heldDates, named}
 use Rattle.tariff.specs.Structs.{Date, Holidays}
 use Rattle.tariff.proofs.Arrays.{length-mapped}
-use Rattle.tariff.proofs.HeldDates.{Walked, none-to-come, to-come, walked_next}
+use Rattle.tariff.proofs.HeldDates.{Walked, none-to-come, to-come, walked-next}
 use Rattle.tariff.proofs.holidays.Holidays.names.Statement.{statement}
 use Rattle.tariff.proofs.holidays.Holidays.names.Tie as tie
 
@@ -23,15 +23,15 @@ or-next true b c = refl
 or-next false b c = refl
 
 module _ (h : Holidays) (d : Date) (n : ℕ) where
-  at_first : length h.dates ≡ 16 → n ≡ min h.count 16 → Rest h d n false 0
-  at_first s e = record { walked = record { sized = s; places = e; within = omega arith }; whole = refl }
+  at-first : length h.dates ≡ 16 → n ≡ min h.count 16 → Rest h d n false 0
+  at-first s e = record { walked = record { sized = s; places = e; within = omega arith }; whole = refl }
 
   module _ (found : Bool) (i : ℕ) (r : Rest h d n found i) where
-    one_more : (e : Date) (same : Bool) (next : ℕ) → i < n → same ≡ sameDate (get_or h.dates i e) d → next ≡ i + 1 → Rest h d n (found || same) next
+    one-more : (e : Date) (same : Bool) (next : ℕ) → i < n → same ≡ sameDate (get_or h.dates i e) d → next ≡ i + 1 → Rest h d n (found || same) next
     unfolding named
-    one_more e same next l is up =
+    one-more e same next l is up =
         record {
-          walked = walked_next h n i r.walked next l up;
+          walked = walked-next h n i r.walked next l up;
           whole =
               rw (up, is)
               (or-next found (sameDate (get_or h.dates i e) d) (named (drop (i + 1) (heldDates h)) d)
@@ -54,11 +54,11 @@ names_spec =
     tie.close
     (tie.spec invariant-loop decreases-loop
     (search rules)
-    (λ c. at_first _ _ _ (search (rules, length-mapped)) (search))
+    (λ c. at-first _ _ _ (search (rules, length-mapped)) (search))
     (λ c. let at : tie.At-loop-i invariant-loop decreases-loop = search in omega (arith, at.loop-i.invariant.walked))
     (λ c. let at : tie.At-loop-i invariant-loop decreases-loop = search in omega (arith, at.loop-i.invariant.walked))
     (search rules)
     (λ c. let at : tie.At-loop-i invariant-loop decreases-loop = search in omega (arith, at.loop-i.invariant.walked))
     (λ c. omega arith)
-    (λ c. let at : tie.At-loop-i invariant-loop decreases-loop = search in one_more _ _ _ _ _ at.loop-i.invariant _ _ _ (search) (let t : tie.After-same-same invariant-loop decreases-loop = search in t.same-same.ensures) refl)
+    (λ c. let at : tie.At-loop-i invariant-loop decreases-loop = search in one-more _ _ _ _ _ at.loop-i.invariant _ _ _ (search) (let t : tie.After-same-same invariant-loop decreases-loop = search in t.same-same.ensures) refl)
     (λ c. let at : tie.At-loop-i invariant-loop decreases-loop = search in ended _ _ _ _ _ at.loop-i.invariant (search)))

@@ -5,12 +5,12 @@ use mathlib.Core.Path.{◌≡◌}
 use lib.Dec.{leb, ltb}
 use borrow.Author.Rules.{rules}
 use Rattle.tariff.proofs.StepTests.{far-over-test, far-under-test}
-use Rattle.tariff.specs.Steps.{crosses, is_over, isUnder}
+use Rattle.tariff.specs.Steps.{crosses, isOver, isUnder}
 use Rattle.tariff.proofs.steps.Step.crosses.Statement.{statement}
 use Rattle.tariff.proofs.steps.Step.crosses.Tie as tie
 
 -- the answer, from what the calls give
-answer : (s m over under : _) → over ≡ is_over s m → under ≡ isUnder s m
+answer : (s m over under : _) → over ≡ isOver s m → under ≡ isUnder s m
     → ltb s.k ((m.0 + 2500) / 3000) || (over && leb 2 s.over) || ltb ((m.0 + 3499) / 3000) s.k || (under && leb 2 s.under) ≡ crosses s m
 unfolding crosses
 answer s m over under e₁ e₂ = cc (far-over-test s.k m.0, far-under-test s.k m.0)
