@@ -3,13 +3,14 @@
 
     tools/mutate.py FOLDER [--count N] [--seed S] [CRATE...]
 
-FOLDER is a scratch folder for the copy; it is made if it is missing and may be deleted afterwards. Run it from the
-repository's root after `rt check`, so that the copy starts from proved crates. For each of the crates (tariff, ledger
-and archive if none is named) N changes are drawn: a constant up or down by one, a comparison at its edge or turned, an
-operand exchanged, a bool turned. Contracts, types and comments are left alone: only code changes.
+FOLDER is a scratch folder for the copy, outside the repository; it is made if it is missing and may be deleted
+afterwards. Run it from the repository's root after `rt all check`: checks in the copy begin with what those kept. For each
+of the crates (tariff, ledger and archive if none is named) N changes are drawn: a constant up or down by one, a comparison
+at its edge or turned, an operand exchanged, a bool turned. Contracts, types and comments are left alone: only code changes.
 
-Every change must be refused. The report tells refusals for a fact from those in which the proof file no longer names
-the code's needs; a change that is not refused is printed as SURVIVED, and the exit status is 1.
+Every change must be refused. The report tells refusals for a fact from those in which a proof file names a goal that the
+changed code no longer has, since goals are named after the code; a change that is not refused is printed as SURVIVED, one
+without a verdict as NOT TRIED, and the exit status is 1.
 """
 
 import argparse
@@ -31,19 +32,22 @@ CHANGES = (
     ("negation", re.compile(r"(?<=[ (])!(?=[\w(])"), lambda m: ("",)),
     ("value", re.compile(r"\b(true|false)\b"), lambda m: ("false" if m[1] == "true" else "true",)),
 )
-PASSED_OVER = re.compile(r"^\s*(//|ghost |use |pub use |mod |pub mod |requires|ensures|pub struct|struct|#\[|pub \w+:|\w+: \w)")
+PASSED_OVER = re.compile(r"^\s*(//|ghost |use |pub use |mod |pub mod |requires|ensures|pub struct|struct|#!?\[|pub \w+:|\w+: \w)")
+# A proof file that names what the change took away.
+MISFIT = re.compile(r"(\./)?proofs/.*(has no field|is not in scope|has no `|was not admitted)")
 
 
 def code_lines(source):
     """Line numbers of code: no contracts, types, imports or comments."""
-    inside_struct = False
+    end = None
     for number, line in enumerate(source.split("\n")):
-        if re.match(r"\s*(pub )?struct .*\{$", line):
-            inside_struct = True
-        if inside_struct:
-            inside_struct = line.strip() != "}"
+        found = re.match(r"\s*(?:pub )?(?:struct|use|(requires|ensures)) ?.*\{$", line)
+        if found and end is None:
+            end = r"\s*\}$" if found.group(1) or "struct" in line else r"\s*\};$"
+        if end is not None:
+            end = None if re.match(end, line) else end
             continue
-        if line.strip() and not PASSED_OVER.match(line) and "⌜" not in line and " fn " not in f" {line}" and "->" not in line:
+        if line.strip() and not PASSED_OVER.match(line) and " fn " not in f" {line}" and "->" not in line:
             yield number, line
 
 
@@ -61,20 +65,20 @@ def changes(path):
 
 
 def prove(folder, crate):
-    """Whether the prover refuses the crate, and its first error."""
-    run = subprocess.run(["rt", "dev", crate], cwd=folder, capture_output=True, text=True, env=dict(os.environ, RT_CUT="0"))
-    errors = [line for line in (run.stdout + run.stderr).split("\n") if " error" in line]
-    return run.returncode != 0, errors[0] if errors else ""
+    """The exit status of a check of the crate, and the lines that it wrote."""
+    run = subprocess.run(["rt", "check"], cwd=f"{folder}/crates/{crate}", capture_output=True, text=True)
+    return run.returncode, (run.stdout + run.stderr).split("\n")
 
 
-def verdict(refused, error):
-    if not refused:
+def verdict(status, lines):
+    if status == 0:
         return "SURVIVED"
-    if re.search(r"has no `Need-", error):
-        return "refused, proof misfit"
-    if re.search(r"\.rt:\d+:\d+: error", error):
+    if status == 1 and any(line.startswith("logic=not-proved") for line in lines):
+        errors = [line for line in lines if re.match(r"\S+:\d+:\d+: error", line)]
+        return "refused, proof misfit" if errors and all(MISFIT.match(line) for line in errors) else "refused for a fact"
+    if status == 1 and any(re.search(r"\.rt:\d+:\d+: error\[[\w-]+\]", line) for line in lines):
         return "refused by the compiler"
-    return "refused for a fact"
+    return "refused at a limit" if status == 3 else "NOT TRIED"
 
 
 def try_changes(folder, crate, count, draw):
@@ -101,8 +105,7 @@ def copy_to(folder):
     if os.path.exists(folder):
         return
     os.makedirs(folder)
-    for name in ("crates", "target"):
-        shutil.copytree(name, f"{folder}/{name}", symlinks=True, ignore=shutil.ignore_patterns("must-fail"))
+    shutil.copytree("crates", f"{folder}/crates", symlinks=True, ignore=shutil.ignore_patterns("must-fail", "out"))
     shutil.copy("crates.txt", folder)
 
 
@@ -114,12 +117,12 @@ def main():
     parser.add_argument("crates", nargs="*", default=[])
     asked = parser.parse_intermixed_args()
     copy_to(asked.folder)
-    survived = 0
+    missed = 0
     for crate in asked.crates or CRATES:
         seen = try_changes(asked.folder, crate, asked.count, random.Random(asked.seed))
-        survived += seen.get("SURVIVED", 0)
+        missed += seen.get("SURVIVED", 0) + seen.get("NOT TRIED", 0)
         print(f"{crate}: " + ", ".join(f"{count} {result}" for result, count in sorted(seen.items())), flush=True)
-    return 1 if survived else 0
+    return 1 if missed else 0
 
 
 if __name__ == "__main__":

@@ -33,7 +33,7 @@ def main():
     readings = re.search(r"`(--temperatures \S+)`", readme)[1].split()
     status, page, _ = run("backcast", "--base", "520", "--slope", "61.75", "--turning", "65", *readings)
     checks.that(status == 0 and len(page.split(b"\n")) > 10, "README's readings have their back-casts")
-    checks.that("removes `target/`" in readme, "README says what the gate leaves of the build")
+    checks.that("removes the static library" in readme, "README says what the gate leaves of the build")
     checks.end()
 
 
