@@ -1,5 +1,5 @@
 -- A list of entries in bytes, and the first entry of it that is refused.
-use Rattle.tariff.specs.Vocabulary.{ℕ, zero, suc, ◌+◌, ◌/◌, Bool, cond, eqb, List, [], ◌∷◌, length, take, drop}
+use Rattle.std.specs.Prelude.{ℕ, zero, suc, ◌+◌, ◌/◌, Bool, cond, eqb, List, [], ◌∷◌, length, take, drop}
 use Rattle.archive.specs.Structs.{Checked}
 use Rattle.ledger.specs.Kinds.{CLOSE-MONTH}
 use Rattle.ledger.specs.Entries.{entryOf}

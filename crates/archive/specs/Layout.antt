@@ -1,5 +1,5 @@
 -- The bytes of an archive: a head, a directory of sections, and the sections.
-use Rattle.tariff.specs.Vocabulary.{ℕ, ◌+◌, ◌*◌, Bool, cond, List, [], ◌∷◌, ◌++◌, length}
+use Rattle.std.specs.Prelude.{ℕ, ◌+◌, ◌*◌, Bool, cond, List, [], ◌∷◌, ◌++◌, length}
 use Rattle.archive.specs.Words.{bytesOf}
 use Rattle.archive.specs.Entries.{entriesOf, closesMonth}
 

@@ -1,5 +1,5 @@
 -- What sets old archives and new ones apart.
-use Rattle.tariff.specs.Vocabulary.{ℕ, ◌<◌, Bool, true, false, eqb, List, [], length, get_or, set, ◌≡◌}
+use Rattle.std.specs.Prelude.{ℕ, ◌<◌, Bool, true, false, eqb, List, [], length, get_or, set, ◌≡◌}
 use Rattle.ledger.specs.Entries.{entryOf}
 use Rattle.ledger.specs.OldAndNew.{isOldKind}
 use Rattle.archive.specs.Entries.{entriesOf, finding}

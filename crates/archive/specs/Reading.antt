@@ -1,5 +1,5 @@
 -- The reader: it checks a whole file before it gives any part of it.
-use Rattle.tariff.specs.Vocabulary.{ℕ, zero, suc, ◌+◌, ◌*◌, ◌%◌, Bool, true, false, cond, not, ◌&&◌, ◌||◌, eqb, ltb, List, [], ◌∷◌, ◌++◌, map, length, get_or, take, drop}
+use Rattle.std.specs.Prelude.{ℕ, zero, suc, ◌+◌, ◌*◌, ◌%◌, Bool, true, false, cond, not, ◌&&◌, ◌||◌, eqb, ltb, List, [], ◌∷◌, ◌++◌, map, length, get_or, take, drop}
 use Rattle.archive.specs.Structs.{Checked, Place}
 use Rattle.ledger.specs.Forms.{formNumber}
 use Rattle.ledger.specs.Entries.{halfAt, wordAt}

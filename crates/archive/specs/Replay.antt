@@ -1,5 +1,5 @@
 -- An archive's entries posted in order to a fresh ledger; those that it refuses are in the archive too, and are refused again.
-use Rattle.tariff.specs.Vocabulary.{ℕ, ◌+◌, ◌<◌, Bool, cond, eqb, List, [], ◌∷◌, ◌≡◌}
+use Rattle.std.specs.Prelude.{ℕ, ◌+◌, ◌<◌, Bool, cond, eqb, List, [], ◌∷◌, ◌≡◌}
 use Rattle.archive.specs.Structs.{Figures, Ledger, Replay}
 use Rattle.ledger.specs.State.{fresh}
 use Rattle.ledger.specs.Panel.{bankOf, panelOf}

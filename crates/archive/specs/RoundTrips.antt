@@ -1,5 +1,5 @@
 -- There is one archive for each list, and one list in each archive.
-use Rattle.tariff.specs.Vocabulary.{ℕ, ◌<◌, ◌≤◌, Bool, List, [], length, get_or, ◌≡◌}
+use Rattle.std.specs.Prelude.{ℕ, ◌<◌, ◌≤◌, Bool, List, [], length, get_or, ◌≡◌}
 use Rattle.archive.specs.Entries.{entriesOf, finding}
 use Rattle.archive.specs.Layout.{mostBytes, sectionsOf, concatenated, archiveOf}
 use Rattle.archive.specs.Writing.{written}

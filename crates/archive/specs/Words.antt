@@ -1,5 +1,5 @@
 -- Numbers as bytes.
-use Rattle.tariff.specs.Vocabulary.{ℕ, zero, suc, ◌/◌, ◌%◌, List, [], ◌∷◌}
+use Rattle.std.specs.Prelude.{ℕ, zero, suc, ◌/◌, ◌%◌, List, [], ◌∷◌}
 
 -- R68: a number in so many bytes, the lowest first; the ledger's halfAt and wordAt read them back.
 unfoldable pub bytesOf : ℕ → ℕ → List ℕ

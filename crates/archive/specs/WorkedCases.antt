@@ -1,5 +1,5 @@
 -- A short list and archives with one fault each: no writer or reader that refuses everything, or has another format, meets these.
-use Rattle.tariff.specs.Vocabulary.{ℕ, zero, suc, pos, Bool, true, false, List, [], ◌∷◌, ◌++◌, replicate, ◌≡◌}
+use Rattle.std.specs.Prelude.{ℕ, zero, suc, pos, Bool, true, false, List, [], ◌∷◌, ◌++◌, replicate, ◌≡◌}
 use Rattle.ledger.specs.MarkedCases.{posting, terms, enrol, closeMonth}
 use Rattle.archive.specs.Entries.{finding}
 use Rattle.archive.specs.Writing.{unwritten, written, outputAfter}

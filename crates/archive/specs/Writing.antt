@@ -1,5 +1,5 @@
 -- The writer: it checks list and room before it writes a byte.
-use Rattle.tariff.specs.Vocabulary.{ℕ, ◌%◌, Bool, cond, ◌||◌, eqb, ltb, List, ◌++◌, map, length, drop}
+use Rattle.std.specs.Prelude.{ℕ, ◌%◌, Bool, cond, ◌||◌, eqb, ltb, List, ◌++◌, map, length, drop}
 use Rattle.archive.specs.Structs.{Checked, Written}
 use Rattle.ledger.specs.Forms.{formNumber}
 use Rattle.archive.specs.Entries.{entriesOf, firstRefusal}

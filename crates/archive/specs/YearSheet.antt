@@ -1,5 +1,5 @@
 -- The year sheet: every account's bank at the end of each month of a gas year.
-use Rattle.tariff.specs.Vocabulary.{ℕ, zero, suc, ◌+◌, pos, Bool, cond, ◌&&◌, eqb, leb, List, [], ◌∷◌, get_or}
+use Rattle.std.specs.Prelude.{ℕ, zero, suc, ◌+◌, pos, Bool, cond, ◌&&◌, eqb, leb, List, [], ◌∷◌, get_or}
 use Rattle.archive.specs.Structs.{Date, Ledger, Units}
 use Rattle.tariff.specs.Months.{gasMonth}
 use Rattle.ledger.specs.Entries.{entryOf}

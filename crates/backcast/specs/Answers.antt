@@ -1,7 +1,7 @@
 -- R91: the back-cast, or why there is none.
-use Rattle.tariff.specs.Vocabulary.{ℕ, ◌*◌, ◌/◌, pos, nat_abs, le_z, Bool, cond, ◌&&◌}
+use Rattle.std.specs.Prelude.{ℕ, ◌*◌, ◌/◌, pos, nat_abs, Bool, cond, ◌&&◌, Float}
+use Rattle.std.specs.Int.Signed.{le_z}
 use Rattle.tariff.specs.Bounds.{mostUnits}
-use Rattle.backcast.specs.Vocabulary.{Float}
 use Rattle.backcast.specs.Structs.{BackCast, LoadCurve}
 use Rattle.backcast.specs.Doubles.{isNumber, numerator, denominator}
 use Rattle.backcast.specs.Load.{allNumbers, loadOf}

@@ -1,6 +1,6 @@
 -- R89: which doubles are numbers, and the exact value of one.
-use Rattle.tariff.specs.Vocabulary.{ℕ, ◌*◌, ℤ, pos, neg_ℤ, Bool, true, false, cond}
-use Rattle.backcast.specs.Vocabulary.{Float, nan, inf, fin, up, down}
+use Rattle.std.specs.Prelude.{ℕ, ◌*◌, ℤ, pos, neg_ℤ, Bool, true, false, cond, Float}
+use Rattle.backcast.specs.Vocabulary.{nan, inf, fin, up, down}
 
 -- R89: not-a-number and the two infinities are none.
 unfoldable pub isNumber : Float → Bool

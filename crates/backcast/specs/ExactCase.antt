@@ -1,7 +1,8 @@
 -- R93: of whole numbers that are not too large nothing is rounded, and the back-cast is that of the integers.
-use Rattle.tariff.specs.Vocabulary.{ℕ, ◌≤◌, ℤ, pos, nat_abs, ◌+ℤ◌, ◌-ℤ◌, ◌*ℤ◌, le_z, lt_z, true, cond, ◌&&◌, ◌≡◌}
+use Rattle.std.specs.Prelude.{ℕ, ◌≤◌, ℤ, pos, nat_abs, ◌+ℤ◌, ◌-ℤ◌, ◌*ℤ◌, true, cond, ◌&&◌, ◌≡◌, Float}
+use Rattle.std.specs.Int.Signed.{le_z, lt_z}
 use Rattle.tariff.specs.Bounds.{mostUnits}
-use Rattle.backcast.specs.Vocabulary.{Float, binary64, of_int}
+use Rattle.backcast.specs.Vocabulary.{binary64, of_int}
 use Rattle.backcast.specs.Structs.{BackCast, LoadCurve}
 use Rattle.backcast.specs.Doubles.{isNumber, numerator, denominator}
 use Rattle.backcast.specs.Answers.{backCast}

@@ -1,7 +1,7 @@
 -- R92: what the back-cast is, stated without the quotient that computes it.
-use Rattle.tariff.specs.Vocabulary.{ℕ, suc, ◌*◌, ◌≤◌, pos, le_z, lt_z, true, false, ◌≡◌}
+use Rattle.std.specs.Prelude.{ℕ, suc, ◌*◌, ◌≤◌, pos, true, false, ◌≡◌, Float}
+use Rattle.std.specs.Int.Signed.{le_z, lt_z}
 use Rattle.tariff.specs.Bounds.{mostUnits}
-use Rattle.backcast.specs.Vocabulary.{Float}
 use Rattle.backcast.specs.Structs.{LoadCurve}
 use Rattle.backcast.specs.Doubles.{isNumber, numerator, denominator}
 use Rattle.backcast.specs.Load.{allNumbers, loadOf}

@@ -1,6 +1,6 @@
 -- R90: the load at a temperature.
-use Rattle.tariff.specs.Vocabulary.{Bool, cond, ◌&&◌}
-use Rattle.backcast.specs.Vocabulary.{Float, binary64, sub, mul, add, lt}
+use Rattle.std.specs.Prelude.{Bool, cond, ◌&&◌, Float}
+use Rattle.backcast.specs.Vocabulary.{binary64, sub, mul, add, lt}
 use Rattle.backcast.specs.Structs.{LoadCurve}
 use Rattle.backcast.specs.Doubles.{isNumber}
 

@@ -1,7 +1,6 @@
--- The words about doubles that definitions use and do not define; those about numbers, choices and lists are tariff's.
+-- The words about doubles that definitions use and do not define; those about numbers, choices and lists are std's.
 -- A Float is nan, which is no number; inf s, an infinity; or fin s m e, the number m × 2^e. Where s is true it is below zero, or −0.
 -- 2^e, for an e of either sign, is the fraction up e / down e: one of the two is 1.
-pub use Rattle.std.specs.Prelude.{Float, ◌^◌}
 pub use Rattle.std.specs.Float.{nan, inf, fin, binary64}
 pub use Rattle.std.specs.Float.Ieee.{up, down, sub, mul, add, lt, round, of_int}
 

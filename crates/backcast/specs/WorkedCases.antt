@@ -1,7 +1,7 @@
 -- R94: cases worked out in advance: no back-cast that rounds otherwise, looks at the other side of the turning temperature or refuses in another
 -- order meets them.
-use Rattle.tariff.specs.Vocabulary.{ℕ, pos, true, false, ◌≡◌}
-use Rattle.backcast.specs.Vocabulary.{Float, nan, inf, fin, ◌^◌, binary64, round}
+use Rattle.std.specs.Prelude.{ℕ, pos, true, false, ◌≡◌, Float, ◌^◌}
+use Rattle.backcast.specs.Vocabulary.{nan, inf, fin, binary64, round}
 use Rattle.backcast.specs.Structs.{BackCast}
 use Rattle.backcast.specs.Load.{loadOf}
 use Rattle.backcast.specs.Answers.{accepted, refused, backCast}

@@ -1,6 +1,6 @@
 -- What anyone can add up from the posted bytes and the answers to them, and that the last ledger holds just that.
 -- Any list to a fresh ledger, old or new, will do, with refused postings and garbage in it; no ledger but the last is looked into.
-use Rattle.tariff.specs.Vocabulary.{ℕ, zero, suc, ◌<◌, ℤ, pos, ◌+ℤ◌, ◌-ℤ◌, Bool, cond, not, ◌&&◌, ◌||◌, eqb, List, [], ◌∷◌, get_or, ◌≡◌}
+use Rattle.std.specs.Prelude.{ℕ, zero, suc, ◌<◌, ℤ, pos, ◌+ℤ◌, ◌-ℤ◌, Bool, cond, not, ◌&&◌, ◌||◌, eqb, List, [], ◌∷◌, get_or, ◌≡◌}
 use Rattle.ledger.specs.declared.entries.Entry.{Entry}
 use Rattle.ledger.specs.declared.state.Ledger.{Ledger}
 use Rattle.ledger.specs.declared.answers.Report.{Report}

@@ -1,5 +1,5 @@
 -- What a posting answers: one number, and a report for each of the sixteen accounts.
-use Rattle.tariff.specs.Vocabulary.{ℕ, pos, cond, eqb, replicate}
+use Rattle.std.specs.Prelude.{ℕ, pos, cond, eqb, replicate}
 use Rattle.ledger.specs.Structs.{Answer, Ledger, Mills, Posted, Quantity, Report, Units}
 
 -- R21: what a closing reports of an account.

@@ -1,5 +1,5 @@
 -- Faults are looked for one after the other, and the first that is found gives the number.
-use Rattle.tariff.specs.Vocabulary.{ℕ, Bool, cond, List, [], ◌∷◌}
+use Rattle.std.specs.Prelude.{ℕ, Bool, cond, List, [], ◌∷◌}
 
 -- R15: whether a test finds its fault, and the number of that fault.
 abbrev pub Check : Type 0

@@ -1,5 +1,5 @@
 -- One account at a closing: violations, cash and, as a month ends, the bill.
-use Rattle.tariff.specs.Vocabulary.{ℕ, ◌+◌, pos, Bool, cond, not, ◌&&◌, ◌||◌, eqb, [], ◌∷◌}
+use Rattle.std.specs.Prelude.{ℕ, ◌+◌, pos, Bool, cond, not, ◌&&◌, ◌||◌, eqb, [], ◌∷◌}
 use Rattle.ledger.specs.Structs.{Account, Capacity, Closed, Date, Entry, Mills, Prices, Quantity, Report, Step, Terms, Totals, Units}
 use Rattle.tariff.specs.Amounts.{sum, less, inward, outward, together, added}
 use Rattle.tariff.specs.Terms.{capacityOf}

@@ -1,5 +1,5 @@
 -- A closing: each open account by itself, all of them or none; then it is the next day.
-use Rattle.tariff.specs.Vocabulary.{false, cond, not, eqb, List, [], ◌∷◌, map}
+use Rattle.std.specs.Prelude.{false, cond, not, eqb, List, [], ◌∷◌, map}
 use Rattle.ledger.specs.Structs.{Entry, Holidays, Ledger, Posted}
 use Rattle.tariff.specs.Dates.{lastOfMonth, dayAfter}
 use Rattle.tariff.specs.Holidays.{heldDates, keptFrom, onMeasurementDay, storedDates}

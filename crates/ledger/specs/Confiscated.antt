@@ -1,5 +1,5 @@
 -- CONFISCATED: what the storage provider took of a supplier's gas, by which the day's closing measures the forfeit.
-use Rattle.tariff.specs.Vocabulary.{true, not, List, [], ◌∷◌}
+use Rattle.std.specs.Prelude.{true, not, List, [], ◌∷◌}
 use Rattle.ledger.specs.Structs.{Account, Change, Entry, Quantity, Today}
 use Rattle.ledger.specs.Checks.{Check, verdict}
 use Rattle.ledger.specs.State.{withToday}

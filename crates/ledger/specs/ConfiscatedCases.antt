@@ -1,5 +1,5 @@
 -- Cases of confiscated gas, worked out in advance: no ledger that ignores the amount, takes the larger, or keeps it meets them.
-use Rattle.tariff.specs.Vocabulary.{ℕ, pos, Bool, true, false, List, [], ◌∷◌, ◌++◌, get_or, replicate, ◌≡◌}
+use Rattle.std.specs.Prelude.{ℕ, pos, Bool, true, false, List, [], ◌∷◌, ◌++◌, get_or, replicate, ◌≡◌}
 use Rattle.ledger.specs.Structs.{Account, Ledger, Today}
 use Rattle.tariff.specs.Holidays.{storedDates}
 use Rattle.tariff.specs.Terms.{termsFrom}

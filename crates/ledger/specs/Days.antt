@@ -1,5 +1,5 @@
 -- Number 23: which day a kind may have.
-use Rattle.tariff.specs.Vocabulary.{Bool, false, not, ◌||◌, List, [], ◌∷◌}
+use Rattle.std.specs.Prelude.{Bool, false, not, ◌||◌, List, [], ◌∷◌}
 use Rattle.ledger.specs.Structs.{Date, Entry}
 use Rattle.tariff.specs.Dates.{confiscationDay, firstOfGasYear, lastOfMonth, lastDate}
 use Rattle.tariff.specs.Holidays.{onMeasurementDay}

@@ -1,5 +1,5 @@
 -- DELIVER: what was brought beyond the need goes into the bank, what was lacking comes out of it.
-use Rattle.tariff.specs.Vocabulary.{ℕ, true, not, List, [], ◌∷◌}
+use Rattle.std.specs.Prelude.{ℕ, true, not, List, [], ◌∷◌}
 use Rattle.ledger.specs.Structs.{Account, Change, Entry, Month, Quantity, Terms, Today, Totals, Units}
 use Rattle.tariff.specs.Amounts.{sum}
 use Rattle.tariff.specs.Delivery.{retained, breaksV1, shareOf, breaksV2}

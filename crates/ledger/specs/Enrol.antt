@@ -1,5 +1,5 @@
 -- ENROL: a supplier's account begins, with a bank, an MDQ and what follows from it.
-use Rattle.tariff.specs.Vocabulary.{not, List, [], ◌∷◌}
+use Rattle.std.specs.Prelude.{not, List, [], ◌∷◌}
 use Rattle.ledger.specs.Structs.{Account, Change, Dth, Entry, Quantity, Terms}
 use Rattle.tariff.specs.Amounts.{amountOf}
 use Rattle.tariff.specs.Terms.{capacityOf}

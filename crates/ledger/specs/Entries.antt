@@ -1,5 +1,5 @@
 -- An entry: its bytes taken apart, and what its words and flags mean.
-use Rattle.tariff.specs.Vocabulary.{ℕ, ◌+◌, ◌*◌, ◌%◌, Bool, eqb, leb, List, get_or}
+use Rattle.std.specs.Prelude.{ℕ, ◌+◌, ◌*◌, ◌%◌, Bool, eqb, leb, List, get_or}
 use Rattle.ledger.specs.Structs.{Date, Entry, Prices, Terms}
 use Rattle.tariff.specs.Terms.{termsFrom}
 

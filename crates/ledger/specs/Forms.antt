@@ -1,5 +1,5 @@
 -- What is wrong with an entry by itself: numbers 1 to 7.
-use Rattle.tariff.specs.Vocabulary.{ℕ, Bool, true, false, cond, not, ◌&&◌, ◌||◌, eqb, leb, ltb, List, [], ◌∷◌, length}
+use Rattle.std.specs.Prelude.{ℕ, Bool, true, false, cond, not, ◌&&◌, ◌||◌, eqb, leb, ltb, List, [], ◌∷◌, length}
 use Rattle.ledger.specs.Structs.{Entry, Kind}
 use Rattle.tariff.specs.Bounds.{mostUnits, mostMdq, mostMcf}
 use Rattle.tariff.specs.Dates.{real}

@@ -1,5 +1,5 @@
 -- Giving and taking gas: one account's side of it, whoever is on the other.
-use Rattle.tariff.specs.Vocabulary.{not, List, [], ◌∷◌}
+use Rattle.std.specs.Prelude.{not, List, [], ◌∷◌}
 use Rattle.ledger.specs.Structs.{Account, Change, Month, Quantity}
 use Rattle.tariff.specs.Amounts.{more, less}
 use Rattle.tariff.specs.Limits.{aboveMaximum, belowMinimum}

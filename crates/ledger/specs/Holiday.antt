@@ -1,5 +1,5 @@
 -- HOLIDAY: a day on which no meter is read.
-use Rattle.tariff.specs.Vocabulary.{not, ◌&&◌, ◌||◌, leb, List, [], ◌∷◌, ◌++◌}
+use Rattle.std.specs.Prelude.{not, ◌&&◌, ◌||◌, leb, List, [], ◌∷◌, ◌++◌}
 use Rattle.ledger.specs.Structs.{Date, Entry, Ledger, Posted}
 use Rattle.tariff.specs.Dates.{before, real}
 use Rattle.tariff.specs.Holidays.{leavesOne, named, storedDates}

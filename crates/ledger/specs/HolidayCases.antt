@@ -1,5 +1,5 @@
 -- Cases of holidays, worked out in advance: no ledger that forgets what was named, counts a weekend, or asks for the old day meets them.
-use Rattle.tariff.specs.Vocabulary.{ℕ, zero, suc, ◌+◌, ◌/◌, ◌%◌, pos, Bool, true, false, List, [], ◌∷◌, ◌++◌, replicate, ◌≡◌}
+use Rattle.std.specs.Prelude.{ℕ, zero, suc, ◌+◌, ◌/◌, ◌%◌, pos, Bool, true, false, List, [], ◌∷◌, ◌++◌, replicate, ◌≡◌}
 use Rattle.ledger.specs.Structs.{Account, Date, Holidays, Ledger}
 use Rattle.tariff.specs.Holidays.{dateOf, storedDates}
 use Rattle.tariff.specs.Terms.{termsFrom}

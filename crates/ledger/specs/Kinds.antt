@@ -1,5 +1,5 @@
 -- The kinds of entries: their numbers, and one table of what each uses.
-use Rattle.tariff.specs.Vocabulary.{ℕ, Bool, cond, eqb, List, [], ◌∷◌}
+use Rattle.std.specs.Prelude.{ℕ, Bool, cond, eqb, List, [], ◌∷◌}
 use Rattle.ledger.specs.Structs.{Kind}
 
 -- R12, R85 and R102: the eleven kinds, by the number in an entry's first byte.

@@ -1,6 +1,6 @@
 -- Cases worked out in advance, as postings to an old fresh ledger: no ledger that refuses everything, or reports nothing, meets them.
 -- Of all but a month's closing a new one makes the same (R84).
-use Rattle.tariff.specs.Vocabulary.{ℕ, zero, suc, ◌+◌, ◌/◌, ◌%◌, ℤ, pos, negsuc, false, List, [], ◌∷◌, ◌++◌, get_or, ◌≡◌}
+use Rattle.std.specs.Prelude.{ℕ, zero, suc, ◌+◌, ◌/◌, ◌%◌, ℤ, pos, negsuc, false, List, [], ◌∷◌, ◌++◌, get_or, ◌≡◌}
 use Rattle.ledger.specs.Structs.{Report}
 use Rattle.ledger.specs.Answers.{quiet}
 use Rattle.ledger.specs.State.{fresh, accountAt}

@@ -1,5 +1,5 @@
 -- MEASURE: the month's new MDQ, and whether the step is to move.
-use Rattle.tariff.specs.Vocabulary.{true, not, List, [], ◌∷◌}
+use Rattle.std.specs.Prelude.{true, not, List, [], ◌∷◌}
 use Rattle.ledger.specs.Structs.{Account, Change, Dth, Entry}
 use Rattle.tariff.specs.Steps.{measured}
 use Rattle.ledger.specs.Checks.{Check, verdict}

@@ -1,5 +1,5 @@
 -- What holidays do to the day on which meters are read, and what they leave alone.
-use Rattle.tariff.specs.Vocabulary.{ℕ, Bool, true, cond, not, ◌&&◌, leb, List, [], ◌∷◌, ◌++◌, ◌≡◌}
+use Rattle.std.specs.Prelude.{ℕ, Bool, true, cond, not, ◌&&◌, leb, List, [], ◌∷◌, ◌++◌, ◌≡◌}
 use Rattle.ledger.specs.Structs.{Date, Ledger, Month}
 use Rattle.tariff.specs.Dates.{before}
 use Rattle.tariff.specs.Holidays.{measurementDay, named, storedDates}

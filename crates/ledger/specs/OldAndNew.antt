@@ -1,5 +1,5 @@
 -- What sets old ledgers and new ones apart, and that an old one is answered as it was before there were new ones.
-use Rattle.tariff.specs.Vocabulary.{ℕ, min, Bool, false, true, cond, ◌&&◌, leb, List, [], length, get_or, ◌≡◌}
+use Rattle.std.specs.Prelude.{ℕ, min, Bool, false, true, cond, ◌&&◌, leb, List, [], length, get_or, ◌≡◌}
 use Rattle.ledger.specs.Structs.{Date, Ledger, Report}
 use Rattle.ledger.specs.Kinds.{TERMS, CLOSE-MONTH, kindOf}
 use Rattle.ledger.specs.Entries.{entryOf}

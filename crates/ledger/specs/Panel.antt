@@ -1,5 +1,5 @@
 -- The panel: all gas in bank, as one figure.
-use Rattle.tariff.specs.Vocabulary.{ℕ, ℤ, pos, ◌+ℤ◌, cond, List, [], ◌∷◌}
+use Rattle.std.specs.Prelude.{ℕ, ℤ, pos, ◌+ℤ◌, cond, List, [], ◌∷◌}
 use Rattle.ledger.specs.Structs.{Account, Ledger, Panel}
 use Rattle.ledger.specs.State.{accountAt}
 use Rattle.ledger.specs.Ranges.{inRange}

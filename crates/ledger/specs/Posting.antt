@@ -1,5 +1,5 @@
 -- A posting, whole: bytes of any length and content, to any ledger.
-use Rattle.tariff.specs.Vocabulary.{ℕ, cond, not, ◌&&◌, eqb, List, [], ◌∷◌, ◌++◌, length}
+use Rattle.std.specs.Prelude.{ℕ, cond, not, ◌&&◌, eqb, List, [], ◌∷◌, ◌++◌, length}
 use Rattle.ledger.specs.Structs.{Account, Change, Entry, Ledger, Posted, Terms}
 use Rattle.tariff.specs.Dates.{sameDate}
 use Rattle.ledger.specs.Checks.{Check, verdict}

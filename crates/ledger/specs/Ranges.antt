@@ -1,5 +1,5 @@
 -- The range of every number in a ledger (R16); one outside tells of a damaged ledger (20), or of a posting that goes too far (29).
-use Rattle.tariff.specs.Vocabulary.{Bool, true, not, ◌&&◌, ◌||◌, leb, List, [], ◌∷◌}
+use Rattle.std.specs.Prelude.{Bool, true, not, ◌&&◌, ◌||◌, leb, List, [], ◌∷◌}
 use Rattle.ledger.specs.Structs.{Account, Ledger, Step, Totals}
 use Rattle.tariff.specs.Bounds.{mostUnits, mostBank, mostOverdraft, mostMdq, mostBcq, mostMcf, mostOwed, mostDays}
 use Rattle.tariff.specs.Amounts.{within, withinMills}

@@ -1,5 +1,5 @@
 -- A list of postings, each to the ledger that the one before it left.
-use Rattle.tariff.specs.Vocabulary.{ℕ, Bool, eqb, List, [], ◌∷◌}
+use Rattle.std.specs.Prelude.{ℕ, Bool, eqb, List, [], ◌∷◌}
 use Rattle.ledger.specs.Structs.{Answer, Ledger}
 use Rattle.ledger.specs.Posting.{posted}
 

@@ -1,5 +1,5 @@
 -- What a ledger remembers between postings, and how one part of it is replaced.
-use Rattle.tariff.specs.Vocabulary.{ℕ, pos, Bool, true, false, List, [], get_or, set, replicate}
+use Rattle.std.specs.Prelude.{ℕ, pos, Bool, true, false, List, [], get_or, set, replicate}
 use Rattle.ledger.specs.Structs.{Account, Capacity, Date, Dth, Holidays, Ledger, Mcf, Mills, Quantity, Step, Terms, ThisMonth, Today, Totals, Units}
 use Rattle.tariff.specs.Terms.{termsFrom}
 use Rattle.tariff.specs.Holidays.{heldDates, storedDates}

@@ -1,5 +1,5 @@
 -- TERMS: the company's numbers of a gas year, by which every account's capacity is worked out anew.
-use Rattle.tariff.specs.Vocabulary.{true, cond, not, List, [], ◌∷◌, map}
+use Rattle.std.specs.Prelude.{true, cond, not, List, [], ◌∷◌, map}
 use Rattle.ledger.specs.Structs.{Account, Entry, Ledger, Posted, Terms}
 use Rattle.tariff.specs.Terms.{capacityOf}
 use Rattle.ledger.specs.Checks.{Check, verdict}

@@ -1,5 +1,5 @@
 -- TRADE: the company sells gas to an account, or buys gas from it.
-use Rattle.tariff.specs.Vocabulary.{Bool, true, false, cond, not}
+use Rattle.std.specs.Prelude.{Bool, true, false, cond, not}
 use Rattle.ledger.specs.Structs.{Account, Change, Entry, Quantity, Totals}
 use Rattle.tariff.specs.Amounts.{together}
 use Rattle.ledger.specs.Entries.{companySells}

@@ -1,5 +1,5 @@
 -- TRANSFER: gas of one supplier becomes that of another.
-use Rattle.tariff.specs.Vocabulary.{not, ◌&&◌, ◌||◌, eqb, List, [], ◌∷◌}
+use Rattle.std.specs.Prelude.{not, ◌&&◌, ◌||◌, eqb, List, [], ◌∷◌}
 use Rattle.ledger.specs.Structs.{Change, Entry, Ledger, Posted}
 use Rattle.ledger.specs.Checks.{Check, verdict}
 use Rattle.ledger.specs.State.{accountAt, withAccount}

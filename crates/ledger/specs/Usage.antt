@@ -1,5 +1,5 @@
 -- USAGE: what a supplier's customers consumed in the month, for the bill.
-use Rattle.tariff.specs.Vocabulary.{true, not, List, [], ◌∷◌}
+use Rattle.std.specs.Prelude.{true, not, List, [], ◌∷◌}
 use Rattle.ledger.specs.Structs.{Account, Change, Entry, Mcf, Totals}
 use Rattle.ledger.specs.Checks.{Check, verdict}
 use Rattle.ledger.specs.State.{totals, withMonth}

@@ -1,5 +1,5 @@
 -- R82: the amount of a delivery for programs that explain figures, for every input.
-use Rattle.tariff.specs.Vocabulary.{ℕ, ℤ, pos, Bool, cond, ◌&&◌, leb}
+use Rattle.std.specs.Prelude.{ℕ, ℤ, pos, Bool, cond, ◌&&◌, leb}
 use Rattle.tariff.specs.Bounds.{mostRetainage, mostUnits}
 use Rattle.tariff.specs.Delivery.{retained}
 

@@ -1,5 +1,5 @@
 -- R80: the year sheet in cells that the caller lends, a row of twelve for each of sixteen accounts, one after the other.
-use Rattle.tariff.specs.Vocabulary.{◌/◌, ◌%◌, ℤ, cond, ltb, List, ◌++◌, length, drop}
+use Rattle.std.specs.Prelude.{◌/◌, ◌%◌, ℤ, cond, ltb, List, ◌++◌, length, drop}
 use Rattle.tariff.specs.declared.amounts.Units.{Units}
 use Rattle.archive.specs.YearSheet.{upTo, cellAt}
 

@@ -1,5 +1,5 @@
 -- R82: the two ends of a month's band for programs that explain figures, for every input.
-use Rattle.tariff.specs.Vocabulary.{ℕ, Bool, cond, ◌&&◌, leb}
+use Rattle.std.specs.Prelude.{ℕ, Bool, cond, ◌&&◌, leb}
 use Rattle.tariff.specs.Bounds.{mostBcq}
 use Rattle.tariff.specs.Amounts.{percent}
 use Rattle.tariff.specs.Months.{minimum, maximum}

@@ -1,5 +1,5 @@
 -- R95: which accounts could receive a quantity of a seller's gas today.
-use Rattle.tariff.specs.Vocabulary.{ℕ, Bool, not, ◌&&◌, eqb}
+use Rattle.std.specs.Prelude.{ℕ, Bool, not, ◌&&◌, eqb}
 use Rattle.tariff.specs.Amounts.{more, less}
 use Rattle.tariff.specs.Limits.{aboveMaximum, belowMinimum}
 use Rattle.ledger.specs.State.{accountAt}

@@ -1,5 +1,5 @@
 -- R99: what the list is good for: those in it, and no others, could be sent the gas now.
-use Rattle.tariff.specs.Vocabulary.{ℕ, ◌/◌, ◌%◌, ◌<◌, Bool, eqb, List, ◌∷◌, ◌++◌, length, replicate, ◌≡◌}
+use Rattle.std.specs.Prelude.{ℕ, ◌/◌, ◌%◌, ◌<◌, Bool, eqb, List, ◌∷◌, ◌++◌, length, replicate, ◌≡◌}
 use Rattle.ledger.specs.Kinds.{TRANSFER}
 use Rattle.ledger.specs.MarkedCases.{word}
 use Rattle.ledger.specs.Posting.{posted}

@@ -1,5 +1,5 @@
 -- R13, R16: the largest value of each number that has a range, named once for entries and ledgers.
-use Rattle.tariff.specs.Vocabulary.{ℕ}
+use Rattle.std.specs.Prelude.{ℕ}
 
 -- R13: of the terms, NN and DD in Dth, R in ten-thousandths; any rate or price in mills.
 abbrev pub mostNoNotice : ℕ

@@ -1,5 +1,5 @@
 -- R6, R7: the day after a date is the right one, stated without the definition that computes it.
-use Rattle.tariff.specs.Vocabulary.{ℕ, ◌+◌, ◌*◌, ◌%◌, ◌<◌, ◌≤◌, true, false, ◌≡◌}
+use Rattle.std.specs.Prelude.{ℕ, ◌+◌, ◌*◌, ◌%◌, ◌<◌, ◌≤◌, true, false, ◌≡◌}
 use Rattle.tariff.specs.Structs.{Date}
 use Rattle.tariff.specs.Dates.{real, lastDate, dayAfter, weekday}
 

@@ -1,5 +1,5 @@
 -- R45 to R57: what a closing finds in an account, and what it does to it: violations, cash, carry and forfeit.
-use Rattle.tariff.specs.Vocabulary.{ℕ, ◌+◌, ◌-◌, min, Bool, cond, not, ◌&&◌, ◌||◌}
+use Rattle.std.specs.Prelude.{ℕ, ◌+◌, ◌-◌, min, Bool, cond, not, ◌&&◌, ◌||◌}
 use Rattle.tariff.specs.Structs.{Date, Dth, Month, Quantity, Units}
 use Rattle.tariff.specs.Amounts.{nothing, inward, opposite, gap, above, below, less, percent}
 use Rattle.tariff.specs.Months.{sameMonth, january, february, march, june, august, minimum, maximum, mmbq, withdrawalMaximum, withdrawalMinimum, winter}

@@ -1,5 +1,5 @@
 -- R5 to R7 and R9: dates in the Gregorian calendar, 2000 to 2099.
-use Rattle.tariff.specs.Vocabulary.{ℕ, ◌+◌, ◌-◌, ◌*◌, ◌/◌, ◌%◌, Bool, cond, not, ◌&&◌, ◌||◌, eqb, leb, ltb, List, [], ◌∷◌, get_or, take}
+use Rattle.std.specs.Prelude.{ℕ, ◌+◌, ◌-◌, ◌*◌, ◌/◌, ◌%◌, Bool, cond, not, ◌&&◌, ◌||◌, eqb, leb, ltb, List, [], ◌∷◌, get_or, take}
 use Rattle.tariff.specs.Structs.{Date, Month}
 use Rattle.tariff.specs.Months.{sameMonth, january, march, april, december}
 

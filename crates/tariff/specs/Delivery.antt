@@ -1,5 +1,6 @@
 -- R31 to R34: what a day's delivery adds to the bank, and the two limits on a day.
-use Rattle.tariff.specs.Vocabulary.{ℕ, ◌-◌, ◌*◌, pos, ◌-ℤ◌, ◌*ℤ◌, quot_z, Bool, cond, not, ◌||◌, leb, ltb}
+use Rattle.std.specs.Prelude.{ℕ, ◌-◌, ◌*◌, pos, ◌-ℤ◌, ◌*ℤ◌, Bool, cond, not, ◌||◌, leb, ltb}
+use Rattle.std.specs.Int.Signed.{quot_z}
 use Rattle.tariff.specs.Structs.{Dth, Month, Quantity, Units}
 use Rattle.tariff.specs.Amounts.{inward, outward, below, percent}
 use Rattle.tariff.specs.Months.{sameMonth, november, december, mmbq}

@@ -1,5 +1,5 @@
 -- R28, R29: who is served, and with how much in bank.
-use Rattle.tariff.specs.Vocabulary.{Bool, not, ◌&&◌, ◌||◌, ltb}
+use Rattle.std.specs.Prelude.{Bool, not, ◌&&◌, ◌||◌, ltb}
 use Rattle.tariff.specs.Structs.{Dth, Quantity}
 use Rattle.tariff.specs.Amounts.{percent}
 

@@ -1,5 +1,5 @@
 -- R8, R101, R103 and R104: the days that are named as holidays, and the day of a month on which meters are read.
-use Rattle.tariff.specs.Vocabulary.{ℕ, zero, suc, ◌+◌, ◌-◌, Bool, true, false, cond, not, ◌&&◌, ◌||◌, eqb, leb, ltb, List, [], ◌∷◌, ◌++◌, length, take, replicate}
+use Rattle.std.specs.Prelude.{ℕ, zero, suc, ◌+◌, ◌-◌, Bool, true, false, cond, not, ◌&&◌, ◌||◌, eqb, leb, ltb, List, [], ◌∷◌, ◌++◌, length, take, replicate}
 use Rattle.tariff.specs.Structs.{Date, Holidays, Month}
 use Rattle.tariff.specs.Dates.{before, monthLength, real, sameDate, weekday}
 

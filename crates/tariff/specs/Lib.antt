@@ -1,5 +1,4 @@
 -- The tariff's rules by subject: numbers, calendar and holidays, then terms, enrolment, deliveries, steps, closings and the bill.
-pub mod Vocabulary
 pub mod Structs
 pub mod Bounds
 pub mod Amounts

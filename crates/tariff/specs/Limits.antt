@@ -1,5 +1,5 @@
 -- R36: the month's band, which a bank may not leave by gas that is moved.
-use Rattle.tariff.specs.Vocabulary.{Bool}
+use Rattle.std.specs.Prelude.{Bool}
 use Rattle.tariff.specs.Structs.{Dth, Month, Units}
 use Rattle.tariff.specs.Amounts.{above, below, percent}
 use Rattle.tariff.specs.Months.{minimum, maximum}

@@ -1,6 +1,6 @@
 -- R67: cases worked out in advance, of the definitions themselves.
 -- case3 and case5 are stated of the tests that decide numbers 28 and 25.
-use Rattle.tariff.specs.Vocabulary.{ℕ, pos, negsuc, neg_ℤ, true, false, [], ◌≡◌}
+use Rattle.std.specs.Prelude.{ℕ, pos, negsuc, neg_ℤ, true, false, [], ◌≡◌}
 use Rattle.tariff.specs.Structs.{Dth, Prices, Quantity, Step, Terms, Units}
 use Rattle.tariff.specs.Months.{february, march, april}
 use Rattle.tariff.specs.Holidays.{measurementDay}

@@ -1,5 +1,5 @@
 -- R105 and R106: what the measurement day is, stated as an order of days and not by the search that finds it.
-use Rattle.tariff.specs.Vocabulary.{ℕ, ◌<◌, ◌≤◌, true, false, cond, ltb, List, [], ◌∷◌, ◌++◌, ◌≡◌}
+use Rattle.std.specs.Prelude.{ℕ, ◌<◌, ◌≤◌, true, false, cond, ltb, List, [], ◌∷◌, ◌++◌, ◌≡◌}
 use Rattle.tariff.specs.Structs.{Date, Holidays, Month}
 use Rattle.tariff.specs.Dates.{monthLength, real, weekday}
 use Rattle.tariff.specs.Holidays.{businessDay, dateOf, heldDates, holidaysInRange, leavesOne, measurementDay}

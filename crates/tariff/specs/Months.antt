@@ -1,5 +1,5 @@
 -- R9, R10: a month is its own type, and every percentage is asked of it; tables begin with April, as the gas year does.
-use Rattle.tariff.specs.Vocabulary.{ℕ, ◌+◌, ◌%◌, Bool, eqb, leb, [], ◌∷◌, get_or}
+use Rattle.std.specs.Prelude.{ℕ, ◌+◌, ◌%◌, Bool, eqb, leb, [], ◌∷◌, get_or}
 use Rattle.tariff.specs.Structs.{Month}
 
 -- R9: the months that rules name, by their numbers in the calendar year.

@@ -1,5 +1,5 @@
 -- R25, R39, R56: the step of an MDQ, the step that waits for the month's end, and the runs that keep a small change waiting.
-use Rattle.tariff.specs.Vocabulary.{ℕ, ◌+◌, ◌-◌, ◌*◌, ◌/◌, max, Bool, cond, ◌&&◌, ◌||◌, leb, ltb}
+use Rattle.std.specs.Prelude.{ℕ, ◌+◌, ◌-◌, ◌*◌, ◌/◌, max, Bool, cond, ◌&&◌, ◌||◌, leb, ltb}
 use Rattle.tariff.specs.Structs.{Dth, Step}
 
 -- R25: the number of started blocks of 3,000 Dth. R4: the one quotient that is rounded up.

@@ -1,5 +1,5 @@
 -- R13, R26: the terms in force, and what a step of MDQ is worth under them.
-use Rattle.tariff.specs.Vocabulary.{ℕ, ◌*◌, ◌/◌, Bool, ◌&&◌, leb}
+use Rattle.std.specs.Prelude.{ℕ, ◌*◌, ◌/◌, Bool, ◌&&◌, leb}
 use Rattle.tariff.specs.Structs.{Capacity, Dth, Terms}
 use Rattle.tariff.specs.Bounds.{mostNoNotice, mostDesignDay, mostRetainage, mostRate}
 
