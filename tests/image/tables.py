@@ -207,9 +207,10 @@ def numbers_in(code):
 
 
 def source_faults(folder):
-    """Every Rattle file below a folder whose numbers hold a table."""
+    """Every Rattle file below a folder whose numbers hold a table. What was built keeps copies, in folders `out` beside src/."""
     faults, count = [], 0
-    for place, _, files in os.walk(folder):
+    for place, folders, files in os.walk(folder):
+        folders[:] = [f for f in folders if f != "out" or "src" not in folders]
         for name in sorted(files):
             if not name.endswith(".rt"):
                 continue
@@ -232,7 +233,7 @@ def main(words):
         for fault in faults:
             print(f"tables: {os.path.basename(path)}: month lengths in {fault}")
         print(f"tables: {os.path.basename(path)}: {seen}, {len(faults) or 'no'} table{'s' if len(faults) != 1 else ''} of month lengths")
-        failed = failed or bool(faults)
+        failed = failed or bool(faults) or seen.startswith("0 ")
     return 1 if failed else 0
 
 
