@@ -57,9 +57,7 @@ pub extern "C" fn nedrulov_post(ledger: &mut Ledger, entry: &[u8]) -> Answer
     ensures answer { result ≡ (posted ledger.old entry.now).answer }
     ensures stored { ledger.new ≡ (posted ledger.old entry.now).ledger }
 {
-    let p = ledger::post(*ledger, entry);
-    *ledger = p.ledger;
-    p.answer
+    ledger::post_in(ledger, entry)
 }
 
 #[unsafe(no_mangle)]

@@ -15,6 +15,7 @@ pub struct Holidays {
     pub dates: [Date; 16],
 }
 
+// Three functions stand in the image once each, not once in every caller: that keeps it small (docs/DECISIONS.md, 168).
 impl Holidays {
     pub fn none() -> Holidays
         ensures { result ≡ storedDates [] }
@@ -38,6 +39,7 @@ impl Holidays {
         self.count as usize
     }
 
+    #[inline(never)]
     pub fn names(self, d: Date) -> bool
         ensures { result ≡ named (heldDates self) d }
     {
@@ -66,6 +68,7 @@ impl Holidays {
     }
 
     // The first business day from the 25th on, or 0 where the month has none left.
+    #[inline(never)]
     pub fn measurement_day(self, year: u64, month: Month) -> u64
         requires in_years { (2000 ≤ year) × (year ≤ 2099) }
         requires in_months { (1 ≤ month.0) × (month.0 ≤ 12) }
@@ -131,6 +134,7 @@ impl Holidays {
     }
 
     // With one more, stored anew.
+    #[inline(never)]
     pub fn naming(self, d: Date) -> Holidays
         requires { self.count < 16 }
         ensures { result ≡ storedDates (heldDates self ++ d ∷ []) }
