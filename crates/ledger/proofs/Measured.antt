@@ -11,7 +11,7 @@ use borrow.Author.Tests.{eqb-true, eqb-false, eq-eqb, ne_eqb, not-false}
 use Rattle.tariff.specs.Dates.{dayAfter, lastOfMonth, sameDate}
 use Rattle.tariff.specs.Holidays.{heldDates, keptFrom, onMeasurementDay, storedDates}
 use Rattle.tariff.proofs.BusinessDays.{every-month, moves-on, today-stays}
-use Rattle.tariff.proofs.HeldDates.{held-stored, kept-members}
+use Rattle.tariff.proofs.HeldDates.{held-stored, kept-members, kept-without}
 use Rattle.tariff.proofs.Laws.{same-date-is}
 use Rattle.ledger.specs.Answers.{plain, refused, settle}
 use Rattle.ledger.specs.Checks.{Check, verdict}
@@ -22,7 +22,7 @@ use Rattle.ledger.specs.Entries.{dayNamed, entryOf}
 use Rattle.ledger.specs.Forms.{entryChecks}
 use Rattle.ledger.specs.Holiday.{holding, holidayChecks, postHoliday}
 use Rattle.ledger.specs.Kinds.{kindOf, lookup}
-use Rattle.ledger.specs.Measuring.{DropsPassed, EveryMonthMeasured, HolidayAccepted, HoldsIt, MovesMeasuring, SameToday, StaysInRange, StoredAnew}
+use Rattle.ledger.specs.Measuring.{DropsPassed, EveryMonthMeasured, HolidayAccepted, HoldsIt, KeepsOrder, MovesMeasuring, SameToday, StaysInRange, StoredAnew}
 use Rattle.ledger.specs.Posting.{admission, postEntry, postKind, postSeveral, posted, standingChecks, stored}
 use Rattle.ledger.specs.Ranges.{everyAccount, inRange}
 use Rattle.ledger.specs.Running.{run}
@@ -65,6 +65,12 @@ unfolding heldIn closed holidaysAfter
 drops-passed l b nine z x =
     rw (month-closed l b nine z, eq-eqb (entryOf b).kind 9 nine, held-stored (keptFrom (dayAfter (entryOf b).date) (heldDates l.holidays)))
     (kept-members (dayAfter (entryOf b).date) (heldDates l.holidays) x)
+
+pub keeps-order : KeepsOrder
+unfolding heldIn closed holidaysAfter
+keeps-order l b nine z =
+    rw (month-closed l b nine z, eq-eqb (entryOf b).kind 9 nine, held-stored (keptFrom (dayAfter (entryOf b).date) (heldDates l.holidays)))
+    (kept-without (dayAfter (entryOf b).date) (heldDates l.holidays))
 
 -- ---- an accepted HOLIDAY
 

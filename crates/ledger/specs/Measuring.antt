@@ -2,7 +2,7 @@
 use Rattle.std.specs.Prelude.{ℕ, Bool, true, cond, not, ◌&&◌, leb, List, [], ◌∷◌, ◌++◌, ◌≡◌}
 use Rattle.ledger.specs.Structs.{Date, Ledger, Month}
 use Rattle.tariff.specs.Dates.{before}
-use Rattle.tariff.specs.Holidays.{measurementDay, named, storedDates}
+use Rattle.tariff.specs.Holidays.{Without, measurementDay, named, storedDates}
 use Rattle.tariff.specs.MeasurementDays.{IsMeasurementDay, MonthExists, NextBusinessDay}
 use Rattle.ledger.specs.Kinds.{TERMS, CLOSE-MONTH, HOLIDAY}
 use Rattle.ledger.specs.Entries.{dayNamed, entryOf}
@@ -43,6 +43,12 @@ abbrev pub DropsPassed : Type 0
 DropsPassed =
     (l : Ledger) (b : List ℕ) → (entryOf b).kind ≡ CLOSE-MONTH → (posted l b).answer.number ≡ 0 → (x : Date)
     → named (heldIn (posted l b).ledger) x ≡ named (heldIn l) x && not (before x (posted l b).ledger.date)
+
+-- R104: and those that are left keep their order.
+abbrev pub KeepsOrder : Type 0
+KeepsOrder =
+    (l : Ledger) (b : List ℕ) → (entryOf b).kind ≡ CLOSE-MONTH → (posted l b).answer.number ≡ 0
+    → Without (posted l b).ledger.date (heldIn l) (heldIn (posted l b).ledger)
 
 -- R102: a HOLIDAY was accepted.
 pub record HolidayAccepted (l : Ledger) (b : List ℕ) : Type 0 where

@@ -31,7 +31,7 @@ ghost use Rattle.ledger.specs.State.{fresh};
 ghost use Rattle.ledger.specs.Posting.{posted};
 ghost use Rattle.ledger.specs.Panel.{bankOf, panelOf};
 ghost use Rattle.ledger.specs.OldAndNew.{KeepsWhich, NineKinds, StaysAsBefore, ForfeitsByRule, ReportsAlike, AcceptsAlike, AlikeOtherwise};
-ghost use Rattle.ledger.specs.Measuring.{measurementDayIn, StaysInRange, EveryMonthMeasured, PlacesStay, StoredAnew, DropsPassed, HoldsIt, SameToday, MovesMeasuring};
+ghost use Rattle.ledger.specs.Measuring.{measurementDayIn, StaysInRange, EveryMonthMeasured, PlacesStay, StoredAnew, DropsPassed, KeepsOrder, HoldsIt, SameToday, MovesMeasuring};
 ghost use Rattle.ledger.specs.ConfiscatedCases.{ConfiscatedCases};
 ghost use Rattle.ledger.specs.HolidayCases.{HolidayCases};
 ghost use Rattle.ledger.specs.MarkedCases.{MarkedCases};
@@ -202,6 +202,7 @@ pub fn measuring_days()
     ensures places { PlacesStay }
     ensures anew { StoredAnew }
     ensures drops { DropsPassed }
+    ensures order { KeepsOrder }
     ensures holds { HoldsIt }
     ensures same_today { SameToday }
     ensures moves { MovesMeasuring }

@@ -10,7 +10,8 @@ use lib.ListN.{length, drop, get_or, replicate, set, take, drop_of_length-le, le
 use lib.Seq.{append_snoc, drop-cons, get_or-take, length-take-le, set-append_seam, take_all, take-append_seam, take-suc}
 use borrow.Author.Tests.{leb-true, leb-false}
 use Rattle.tariff.specs.Dates.{before, sameDate}
-use Rattle.tariff.specs.Holidays.{heldDates, keptFrom, named, noDate, storedDates}
+use Rattle.tariff.specs.Holidays.{Without, heldDates, keptFrom, named, noDate, storedDates}
+use Rattle.tariff.specs.Holidays.Without.{gone, left, none}
 use Rattle.tariff.specs.Structs.{Date, Holidays}
 use Rattle.tariff.proofs.Laws.{same-date-is}
 
@@ -107,6 +108,16 @@ kept-members first (h ∷ hs) x = go (before h first) (sameDate h x) refl refl (
     go false true p q e =
         let stays : before x first ≡ false = ap (λ (z : Date). before z first) (sym (same-date-is h x q)) ∙ p in rw (q, stays)
     go false false p q e = rw q e
+
+-- and what is left keeps its order
+pub kept-without : (first : Date) (hs : List Date) → Without first hs (keptFrom first hs)
+unfolding keptFrom
+kept-without first [] = none
+kept-without first (h ∷ hs) = go (before h first) refl (kept-without first hs)
+  where
+    go : (b : Bool) → before h first ≡ b → Without first hs (keptFrom first hs) → Without first (h ∷ hs) (cond b (keptFrom first hs) (h ∷ keptFrom first hs))
+    go true p w = gone h hs (keptFrom first hs) p w
+    go false p w = left h hs (keptFrom first hs) p w
 
 pub none-from : (first : Date) → keptFrom first [] ≡ []
 unfolding keptFrom

@@ -1,5 +1,5 @@
 -- R8, R101, R103 and R104: the days that are named as holidays, and the day of a month on which meters are read.
-use Rattle.std.specs.Prelude.{ℕ, zero, suc, ◌+◌, ◌-◌, Bool, true, false, cond, not, ◌&&◌, ◌||◌, eqb, leb, ltb, List, [], ◌∷◌, ◌++◌, length, take, replicate}
+use Rattle.std.specs.Prelude.{ℕ, zero, suc, ◌+◌, ◌-◌, Bool, true, false, cond, not, ◌&&◌, ◌||◌, eqb, leb, ltb, List, [], ◌∷◌, ◌++◌, length, take, replicate, ◌≡◌}
 use Rattle.tariff.specs.Structs.{Date, Holidays, Month}
 use Rattle.tariff.specs.Dates.{before, monthLength, real, sameDate, weekday}
 
@@ -57,3 +57,9 @@ holidaysInRange h = leb h.count 16 && allLeaveOne (heldDates h) (heldDates h)
 unfoldable pub keptFrom : Date → List Date → List Date
 keptFrom first [] = []
 keptFrom first (h ∷ hs) = cond (before h first) (keptFrom first hs) (h ∷ keptFrom first hs)
+
+-- R104: told without working it out: the second list is the first less the dates that lie before one, and what is left stands in its old order.
+pub data Without (first : Date) : List Date → List Date → Type 0 where
+  none : Without first [] []
+  gone : (d : Date) (hs ks : List Date) → before d first ≡ true → Without first hs ks → Without first (d ∷ hs) ks
+  left : (d : Date) (hs ks : List Date) → before d first ≡ false → Without first hs ks → Without first (d ∷ hs) (d ∷ ks)
