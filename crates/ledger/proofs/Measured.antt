@@ -150,12 +150,12 @@ stored-next l b s h = by-number (eqb (posted l b).answer.number 0) refl
     by-number true e = by-kind (eqb-true (posted l b).answer.number 0 e) (eqb (entryOf b).kind 11) (eqb (entryOf b).kind 9) refl refl
     by-number false e = rw ((step l b s).kept e) h
 
-run_stored : (l : Ledger) (bs : List (List ℕ)) → Sound l → Stored l → Stored (run l bs)
-run_stored l [] s h = h
-run_stored l (b ∷ bs) s h = run_stored (posted l b).ledger bs (sound-next l b s) (stored-next l b s h)
+run-stored : (l : Ledger) (bs : List (List ℕ)) → Sound l → Stored l → Stored (run l bs)
+run-stored l [] s h = h
+run-stored l (b ∷ bs) s h = run-stored (posted l b).ledger bs (sound-next l b s) (stored-next l b s h)
 
 pub stored-anew : StoredAnew
-stored-anew new bs = run_stored (fresh new) bs (fresh-sound new) (fresh-stored new)
+stored-anew new bs = run-stored (fresh new) bs (fresh-sound new) (fresh-stored new)
 
 -- ---- the same day's other postings
 

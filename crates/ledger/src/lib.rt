@@ -195,7 +195,7 @@ pub fn old_stays_old()
     ensures alike { AlikeOtherwise }
 {}
 
-// R101, R102, R105 and R106: specs/Measuring.antt has each claim in words.
+// R101, R102 and R104 to R106: specs/Measuring.antt has each claim in words.
 pub fn measuring_days()
     ensures in_range { StaysInRange }
     ensures every_month { EveryMonthMeasured }
