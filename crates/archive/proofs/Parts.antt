@@ -8,8 +8,8 @@ use lib.ListN.{length, take, drop, set, length-drop}
 use lib.Seq.{paste, sets-eq, take_all, length-take-le, drop-length, drop-drop, take-add, take-paste, drop-paste}
 
 -- four stores
-pub four-stored : (d : List ℕ) (at a b c e : ℕ) → at + 4 ≤ length d → set (set (set (set d at a) (at + 1) b) (at + 2) c) (at + 3) e ≡ paste d at (a ∷ b ∷ c ∷ e ∷ []) 4
-four-stored d at a b c e h =
+pub four_stored : (d : List ℕ) (at a b c e : ℕ) → at + 4 ≤ length d → set (set (set (set d at a) (at + 1) b) (at + 2) c) (at + 3) e ≡ paste d at (a ∷ b ∷ c ∷ e ∷ []) 4
+four_stored d at a b c e h =
     let one : at + 1 ≡ suc at = omega arith in
     let two : at + 2 ≡ suc (suc at) = omega arith in
     let three : at + 3 ≡ suc (suc (suc at)) = omega arith in
@@ -20,18 +20,18 @@ past : (d : List ℕ) (off : ℕ) → drop (length d - off) (drop off d) ≡ []
 past d off = ap (λ (k : ℕ). drop k (drop off d)) (sym (length-drop off d)) ∙ drop-length (drop off d)
 
 -- a part from an offset to the end, filled from its start and back in its place
-lent-back : (d p ys : List ℕ) (off : ℕ) → ys ≡ p ++ drop (length p) (take (length d - off) (drop off d))
+lent_back : (d p ys : List ℕ) (off : ℕ) → ys ≡ p ++ drop (length p) (take (length d - off) (drop off d))
     → take off d ++ (ys ++ drop (length d - off) (drop off d)) ≡ take off d ++ (p ++ drop (off + length p) d)
-lent-back d p ys off e =
+lent_back d p ys off e =
     ap (λ (l : List ℕ). take off d ++ l)
     (ap (λ (l : List ℕ). ys ++ l) (past d off) ∙ append-nil ys ∙ e
     ∙ ap (λ (l : List ℕ). p ++ drop (length p) l) (take_all (length d - off) (drop off d) (simp length-drop (omega arith)))
     ∙ ap (λ (l : List ℕ). p ++ l) (drop-drop (length p) off d))
 
 -- n more elements after j: one longer copy
-pub paste-more : (d s x : List ℕ) (at j n : ℕ) → at ≤ length d → j ≤ length s → x ≡ paste d at s j
+pub paste_more : (d s x : List ℕ) (at j n : ℕ) → at ≤ length d → j ≤ length s → x ≡ paste d at s j
     → take (at + j) x ++ (take n (drop j s) ++ drop (at + j + n) x) ≡ paste d at s (j + n)
-paste-more d s x at j n hd hs e =
+paste_more d s x at j n hd hs e =
     ap (λ (l : List ℕ). take (at + j) l ++ (take n (drop j s) ++ drop (at + j + n) l)) e
     ∙ ap (λ (l : List ℕ). l ++ (take n (drop j s) ++ drop (at + j + n) (paste d at s j))) (take-paste d at s j hd hs)
     ∙ ap (λ (l : List ℕ). (take at d ++ take j s) ++ (take n (drop j s) ++ l))
@@ -42,12 +42,12 @@ paste-more d s x at j n hd hs e =
 
 -- ---- one section more: its bytes are copied to the part of the output from its offset
 
-pub section-bytes : (s : List ℕ) (at size : ℕ) → at + size ≤ length s → length (take (at + size - at) (drop at s)) ≡ size
-section-bytes s at size h = rw add-sub_cancel_left (length-take-le size (drop at s) (rw length-drop (omega arith)))
+pub section_bytes : (s : List ℕ) (at size : ℕ) → at + size ≤ length s → length (take (at + size - at) (drop at s)) ≡ size
+section_bytes s at size h = rw add-sub_cancel_left (length-take-le size (drop at s) (rw length-drop (omega arith)))
 
-pub section-stored : (d s x ys : List ℕ) (body at size : ℕ) → x ≡ paste d body s at → body ≤ length d → at + size ≤ length s
+pub section_stored : (d s x ys : List ℕ) (body at size : ℕ) → x ≡ paste d body s at → body ≤ length d → at + size ≤ length s
     → ys ≡ take (at + size - at) (drop at s) ++ drop (length (take (at + size - at) (drop at s))) (take (length x - (body + at)) (drop (body + at) x))
     → take (body + at) x ++ (ys ++ drop (length x - (body + at)) (drop (body + at) x)) ≡ paste d body s (at + size)
-section-stored d s x ys body at size e hd hs h =
-    lent-back x (take (at + size - at) (drop at s)) ys (body + at) h
-    ∙ rw (section-bytes s at size hs, add-sub_cancel_left at size) (paste-more d s x body at size hd (omega arith) e)
+section_stored d s x ys body at size e hd hs h =
+    lent_back x (take (at + size - at) (drop at s)) ys (body + at) h
+    ∙ rw (section_bytes s at size hs, add-sub_cancel_left at size) (paste_more d s x body at size hd (omega arith) e)

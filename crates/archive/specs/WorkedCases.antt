@@ -1,27 +1,27 @@
 -- A short list and archives with one fault each: no writer or reader that refuses everything, or has another format, meets these.
 use Rattle.std.specs.Prelude.{ℕ, zero, suc, pos, Bool, true, false, List, [], ◌∷◌, ◌++◌, replicate, ◌≡◌}
-use Rattle.ledger.specs.MarkedCases.{posting, terms, enrol, closeMonth}
+use Rattle.ledger.specs.MarkedCases.{posting, terms, enrol, close_month}
 use Rattle.archive.specs.Entries.{finding}
-use Rattle.archive.specs.Writing.{unwritten, written, outputAfter}
-use Rattle.archive.specs.Reading.{checked, nowhere, placeOf, sectionAt}
-use Rattle.archive.specs.Replay.{figuresOf, replayed}
+use Rattle.archive.specs.Writing.{unwritten, written, output_after}
+use Rattle.archive.specs.Reading.{checked, nowhere, place_of, section_at}
+use Rattle.archive.specs.Replay.{figures_of, replayed}
 
 -- R83: the terms of all examples, and account 0 with MDQ 4,200 and an opening of 1,000.
 abbrev pub list : List ℕ
 list = terms ++ enrol 2 4200 1000
 
 -- R83: an archive of one section, its head and its only pair written out byte by byte.
-abbrev pub oneSection : ℕ → ℕ → List ℕ → List ℕ
-oneSection version length section =
+abbrev pub one_section : ℕ → ℕ → List ℕ → List ℕ
+one_section version length section =
     69 ∷ 70 ∷ 66 ∷ version ∷ 1 ∷ 0 ∷ 0 ∷ 0 ∷ 16 ∷ 0 ∷ 0 ∷ 0 ∷ length ∷ 0 ∷ 0 ∷ 0 ∷ section
 
 -- R83: the archive of that list.
 abbrev pub archive : List ℕ
-archive = oneSection 49 64 list
+archive = one_section 49 64 list
 
 -- R87: the new archive of that list.
-abbrev pub newArchive : List ℕ
-newArchive = oneSection 50 64 list
+abbrev pub new_archive : List ℕ
+new_archive = one_section 50 64 list
 
 -- R85: an amount confiscated from account 0, on 31 January 2027.
 abbrev pub confiscated : List ℕ
@@ -34,44 +34,44 @@ holiday = posting 11 0 1 2026 12 25 0 0 0
 -- R83: so many months closed, and nothing else.
 abbrev pub closings : ℕ → List ℕ
 closings zero = []
-closings (suc n) = closeMonth 0 0 0 0 ++ closings n
+closings (suc n) = close_month 0 0 0 0 ++ closings n
 
 -- R83: the cases.
 pub record WorkedCases : Type 0 where
   -- R75: the list is written, and the byte past its archive stays; the new archive differs in its fourth byte alone (R87).
   pub answer : (new : Bool) → written new list 81 ≡ record { number = 0; index = 0; length = 80 }
-  pub output : outputAfter false list (replicate 81 7) ≡ archive ++ 7 ∷ []
-  pub newOutput : outputAfter true list (replicate 81 7) ≡ newArchive ++ 7 ∷ []
+  pub output : output_after false list (replicate 81 7) ≡ archive ++ 7 ∷ []
+  pub new_output : output_after true list (replicate 81 7) ≡ new_archive ++ 7 ∷ []
   -- R73, R74 and R77: it is read back: two accepted, none refused, 1,000 in bank.
   pub read : checked archive ≡ finding 0 0
-  pub section : sectionAt archive 0 ≡ list
-  pub newRead : (checked newArchive ≡ finding 0 0) × (sectionAt newArchive 0 ≡ list) × (figuresOf newArchive ≡ figuresOf archive)
-  pub figures : figuresOf archive ≡ record { number = 0; index = 0; accepted = 2; refused = 0; figure = record { 0 = pos 1000 } }
+  pub section : section_at archive 0 ≡ list
+  pub new_read : (checked new_archive ≡ finding 0 0) × (section_at new_archive 0 ≡ list) × (figures_of new_archive ≡ figures_of archive)
+  pub figures : figures_of archive ≡ record { number = 0; index = 0; accepted = 2; refused = 0; figure = record { 0 = pos 1000 } }
   -- R71: the fourth of the first bytes is another.
-  pub number8 : (checked (oneSection 48 64 list) ≡ finding 8 0) × (checked (oneSection 51 64 list) ≡ finding 8 0)
+  pub number8 : (checked (one_section 48 64 list) ≡ finding 8 0) × (checked (one_section 51 64 list) ≡ finding 8 0)
   -- R72: the pair ends an entry before the file.
-  pub number9 : checked (oneSection 49 32 list) ≡ finding 9 0
+  pub number9 : checked (one_section 49 32 list) ≡ finding 9 0
   -- R73: a month is closed before the section's last entry; the entry that closes it is at fault.
-  pub number10 : checked (oneSection 49 64 (closeMonth 0 0 0 0 ++ terms)) ≡ finding 10 0
+  pub number10 : checked (one_section 49 64 (close_month 0 0 0 0 ++ terms)) ≡ finding 10 0
   -- R75: one section too many.
   pub number11 : written false (closings 1201) 100000 ≡ unwritten 11 0
   -- R75: the output is one byte too short, and keeps its bytes.
-  pub number12 : (written true list 79 ≡ unwritten 12 0) × (outputAfter true list (replicate 79 7) ≡ replicate 79 7)
+  pub number12 : (written true list 79 ≡ unwritten 12 0) × (output_after true list (replicate 79 7) ≡ replicate 79 7)
   -- R74: there is no second section.
-  pub number13 : (placeOf archive 1 ≡ nowhere 13 0) × (sectionAt archive 1 ≡ [])
+  pub number13 : (place_of archive 1 ≡ nowhere 13 0) × (section_at archive 1 ≡ [])
   -- R84: the tenth kind is one in a new archive, and gets 2 at its index in an old one; so the writer tells, too.
-  pub tenthKind :
-      (checked (oneSection 50 96 (list ++ confiscated)) ≡ finding 0 0)
-      × (checked (oneSection 49 96 (list ++ confiscated)) ≡ finding 2 2)
+  pub tenth_kind :
+      (checked (one_section 50 96 (list ++ confiscated)) ≡ finding 0 0)
+      × (checked (one_section 49 96 (list ++ confiscated)) ≡ finding 2 2)
       × (written true (list ++ confiscated) 112 ≡ record { number = 0; index = 0; length = 112 })
       × (written false (list ++ confiscated) 112 ≡ unwritten 2 2)
   -- R84: and so is the eleventh; there is no twelfth.
-  pub eleventhKind :
-      (checked (oneSection 50 96 (list ++ holiday)) ≡ finding 0 0)
-      × (checked (oneSection 49 96 (list ++ holiday)) ≡ finding 2 2)
-      × (checked (oneSection 50 96 (list ++ posting 12 0 1 0 0 0 0 0 0)) ≡ finding 2 2)
+  pub eleventh_kind :
+      (checked (one_section 50 96 (list ++ holiday)) ≡ finding 0 0)
+      × (checked (one_section 49 96 (list ++ holiday)) ≡ finding 2 2)
+      × (checked (one_section 50 96 (list ++ posting 12 0 1 0 0 0 0 0 0)) ≡ finding 2 2)
   -- R87: a refused archive is replayed as no entries to a fresh ledger, new where its first four bytes are those of a new one.
-  pub refusedNew :
+  pub refused_new :
       ((replayed (69 ∷ 70 ∷ 66 ∷ 50 ∷ [])).ledger.is_new ≡ true)
       × ((replayed (69 ∷ 70 ∷ 66 ∷ 49 ∷ [])).ledger.is_new ≡ false)
       × ((replayed (69 ∷ 70 ∷ 66 ∷ [])).ledger.is_new ≡ false)

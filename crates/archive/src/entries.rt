@@ -1,7 +1,7 @@
 // A list of entries, and which of them is refused first.
 ghost use Rattle.std.specs.Prelude.{◌≡◌, ◌<◌, length};
-ghost use Rattle.archive.specs.Entries.{closesMonth};
-ghost use Rattle.archive.specs.Writing.{listChecked};
+ghost use Rattle.archive.specs.Entries.{closes_month};
+ghost use Rattle.archive.specs.Writing.{list_checked};
 
 #[repr(C)]
 #[derive(Clone, Copy)]
@@ -17,14 +17,14 @@ const CLOSE_MONTH: u8 = 9;
 // Whether an entry closes a month, and so ends its section.
 pub fn closes_month(entry: &[u8]) -> bool
     requires { 0 < length entry.now }
-    ensures { result ≡ closesMonth entry.now }
+    ensures { result ≡ closes_month entry.now }
 {
     entry[0] == CLOSE_MONTH
 }
 
 // The first entry of a list, old or new, that gets a number by itself.
 pub fn check_list(is_new: bool, list: &[u8]) -> Checked
-    ensures { result ≡ listChecked is_new list.now }
+    ensures { result ≡ list_checked is_new list.now }
 {
     let n = list.len() / 32;
     for k in 0..n {

@@ -12,10 +12,10 @@ mod writing;
 
 // The types that cross the boundary; the functions that do stand below, and none of them requires anything.
 ghost use Rattle.std.specs.Prelude.{◌≡◌, ◌+◌, ◌≤◌, length};
-ghost use Rattle.archive.specs.Writing.{written, outputAfter};
-ghost use Rattle.archive.specs.Reading.{isNew, checked, placeOf, sectionAt};
-ghost use Rattle.archive.specs.Replay.{replayed, figuresOf, BanksAddUp, FigureAddsUp, DebtsAddUp, DaysAddUp, StrikingChangesNothing};
-ghost use Rattle.archive.specs.YearSheet.{sheetOf};
+ghost use Rattle.archive.specs.Writing.{written, output_after};
+ghost use Rattle.archive.specs.Reading.{is_new, checked, place_of, section_at};
+ghost use Rattle.archive.specs.Replay.{replayed, figures_of, BanksAddUp, FigureAddsUp, DebtsAddUp, DaysAddUp, StrikingChangesNothing};
+ghost use Rattle.archive.specs.YearSheet.{sheet_of};
 ghost use Rattle.archive.specs.RoundTrips.{ReadsBack, WritesBack};
 ghost use Rattle.archive.specs.OldAndNew.{FourthByteTells, OneByteApart, OldIsNotNew, OldKindsOnly, LaterKindsRefused};
 ghost use Rattle.archive.specs.WorkedCases.{WorkedCases};
@@ -37,7 +37,7 @@ pub use writing::Written;
 // The archive of a list of entries, old or new, at the start of the output.
 pub fn write(is_new: bool, list: &[u8], out: &mut [u8]) -> Written
     ensures answer { result ≡ written is_new list.now (length out.old) }
-    ensures output { out.new ≡ outputAfter is_new list.now out.old }
+    ensures output { out.new ≡ output_after is_new list.now out.old }
 {
     let w = plan(is_new, list, out.len());
     if w.number == 0 {
@@ -48,7 +48,7 @@ pub fn write(is_new: bool, list: &[u8], out: &mut [u8]) -> Written
 
 // Whether an archive is new: its first four bytes tell, whatever follows them.
 pub fn is_new(archive: &[u8]) -> bool
-    ensures { result ≡ isNew archive.now }
+    ensures { result ≡ is_new archive.now }
 {
     if archive.len() < 4 {
         return false;
@@ -77,7 +77,7 @@ pub fn check(archive: &[u8]) -> Checked
 
 // Where section i lies.
 pub fn place(archive: &[u8], i: usize) -> Place
-    ensures value { result ≡ placeOf archive.now i }
+    ensures value { result ≡ place_of archive.now i }
     ensures within { result.start + result.length ≤ length archive.now }
 {
     let c = check(archive);
@@ -104,9 +104,9 @@ pub fn section<'a, 'n, 'i>(
     number: &'n mut u64,
     index: &'i mut usize,
 ) -> &'a [u8]
-    ensures part { result.now ≡ sectionAt archive.now i }
-    ensures number { number.new ≡ (placeOf archive.now i).number }
-    ensures index { index.new ≡ (placeOf archive.now i).index }
+    ensures part { result.now ≡ section_at archive.now i }
+    ensures number { number.new ≡ (place_of archive.now i).number }
+    ensures index { index.new ≡ (place_of archive.now i).index }
 {
     let p = place(archive, i);
     *number = p.number;
@@ -127,7 +127,7 @@ pub fn replay(archive: &[u8]) -> Replay
 
 // Accepted count, refused count and panel figure.
 pub fn figures(archive: &[u8]) -> Figures
-    ensures { result ≡ figuresOf archive.now }
+    ensures { result ≡ figures_of archive.now }
 {
     let r = replay(archive);
     let ledger = r.ledger;
@@ -143,7 +143,7 @@ pub fn figures(archive: &[u8]) -> Figures
 
 // The banks of the gas year that begins in April of a year, accounts by months.
 pub fn year_sheet(archive: &[u8], year: u64) -> [[Units; 12]; 16]
-    ensures { result ≡ sheetOf archive.now year }
+    ensures { result ≡ sheet_of archive.now year }
 {
     let c = check(archive);
     let list = list_in(archive, c.number);

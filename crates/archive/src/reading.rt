@@ -1,8 +1,8 @@
 // The reader: what is wrong with an archive, and where a section lies in it.
 ghost use Rattle.std.specs.Prelude.{◌≡◌, true, false, ◌+◌, ◌*◌, ◌%◌, ◌≤◌, ◌<◌, length};
-ghost use Rattle.archive.specs.Entries.{entriesOf, firstRefusal};
-ghost use Rattle.archive.specs.Reading.{sectionCount, wrongHeader, rightDirectory, numberIn, numbersIn, numbersOf, partsOf, nowhere, checked};
-ghost use Rattle.archive.specs.Replay.{listIn};
+ghost use Rattle.archive.specs.Entries.{entries_of, first_refusal};
+ghost use Rattle.archive.specs.Reading.{section_count, wrong_header, right_directory, number_in, numbers_in, numbers_of, parts_of, nowhere, checked};
+ghost use Rattle.archive.specs.Replay.{list_in};
 
 use crate::entries::{Checked, closes_month};
 use crate::opening::opens_as;
@@ -32,7 +32,7 @@ pub fn nowhere(number: u64, index: usize) -> Place
 
 pub fn section_count(archive: &[u8]) -> usize
     requires { 8 ≤ length archive.now }
-    ensures value { result ≡ sectionCount archive.now }
+    ensures value { result ≡ section_count archive.now }
     ensures bounded { result < 65536 }
 {
     half(archive, 4)
@@ -40,7 +40,7 @@ pub fn section_count(archive: &[u8]) -> usize
 
 // Number 8.
 pub fn wrong_header(archive: &[u8]) -> bool
-    ensures { result ≡ wrongHeader archive.now }
+    ensures { result ≡ wrong_header archive.now }
 {
     let n = archive.len();
     if n < 8 {
@@ -57,8 +57,8 @@ pub fn wrong_header(archive: &[u8]) -> bool
 
 // What number 9 is about.
 pub fn right_directory(archive: &[u8]) -> bool
-    requires { wrongHeader archive.now ≡ false }
-    ensures { result ≡ rightDirectory archive.now }
+    requires { wrong_header archive.now ≡ false }
+    ensures { result ≡ right_directory archive.now }
 {
     let count = section_count(archive);
     let mut end = 8 + 8 * count;
@@ -77,7 +77,7 @@ pub fn right_directory(archive: &[u8]) -> bool
 // The number of an entry in its place: 2 to 7, then 10.
 fn number_in(is_new: bool, ends: bool, last: bool, entry: &[u8]) -> u64
     requires { 0 < length entry.now }
-    ensures { result ≡ numberIn is_new ends last entry.now }
+    ensures { result ≡ number_in is_new ends last entry.now }
 {
     let number = ledger::entry_number(is_new, entry);
     if number != 0 {
@@ -95,7 +95,7 @@ fn number_in(is_new: bool, ends: bool, last: bool, entry: &[u8]) -> u64
 // The first entry of a section that gets a number; the section's first entry has the index `first`.
 fn check_section(is_new: bool, section: &[u8], first: usize, last: bool) -> Checked
     requires { (length section.now % 32 ≡ 0) × (first ≤ 1000000000000) }
-    ensures { result ≡ firstRefusal first (numbersIn is_new last (entriesOf section.now)) }
+    ensures { result ≡ first_refusal first (numbers_in is_new last (entries_of section.now)) }
 {
     let n = section.len() / 32;
     for k in 0..n {
@@ -118,8 +118,8 @@ fn check_section(is_new: bool, section: &[u8], first: usize, last: bool) -> Chec
 
 // The first entry of the file that gets a number, the file being old or new.
 pub fn check_sections(is_new: bool, archive: &[u8]) -> Checked
-    requires { (wrongHeader archive.now ≡ false) × (rightDirectory archive.now ≡ true) }
-    ensures { result ≡ firstRefusal 0 (numbersOf is_new (partsOf archive.now)) }
+    requires { (wrong_header archive.now ≡ false) × (right_directory archive.now ≡ true) }
+    ensures { result ≡ first_refusal 0 (numbers_of is_new (parts_of archive.now)) }
 {
     let count = section_count(archive);
     let mut first = 0;
@@ -143,7 +143,7 @@ pub fn check_sections(is_new: bool, archive: &[u8]) -> Checked
 // The list in an archive whose number is known: all that follows the directory, or nothing where the archive is refused.
 pub fn list_in(archive: &[u8], number: u64) -> &[u8]
     requires { number ≡ (checked archive.now).number }
-    ensures { result.now ≡ listIn archive.now }
+    ensures { result.now ≡ list_in archive.now }
 {
     if number != 0 {
         let end = archive.len();

@@ -2,8 +2,8 @@
 ghost use Rattle.std.specs.Prelude.{◌≡◌, cond, ◌≤◌, eqb};
 ghost use Rattle.ledger.specs.State.{fresh};
 ghost use Rattle.ledger.specs.Running.{history, run};
-ghost use Rattle.archive.specs.Entries.{entriesOf};
-ghost use Rattle.archive.specs.Replay.{countOf, asAccepted, asRefused};
+ghost use Rattle.archive.specs.Entries.{entries_of};
+ghost use Rattle.archive.specs.Replay.{count_of, as_accepted, as_refused};
 
 use crate::entries::Checked;
 use ledger::Ledger;
@@ -44,9 +44,9 @@ fn counted(number: u64) -> u64
 // The counts and the ledger after every entry of an old list or a new one, beside what was found of the archive that it stands in.
 pub fn post_all(is_new: bool, list: &[u8], found: Checked) -> Replay
     ensures number { (result.number ≡ found.number) × (result.index ≡ found.index) }
-    ensures accepted { result.accepted ≡ countOf asAccepted (history (fresh is_new) (entriesOf list.now)) }
-    ensures refused { result.refused ≡ countOf asRefused (history (fresh is_new) (entriesOf list.now)) }
-    ensures ledger { result.ledger ≡ run (fresh is_new) (entriesOf list.now) }
+    ensures accepted { result.accepted ≡ count_of as_accepted (history (fresh is_new) (entries_of list.now)) }
+    ensures refused { result.refused ≡ count_of as_refused (history (fresh is_new) (entries_of list.now)) }
+    ensures ledger { result.ledger ≡ run (fresh is_new) (entries_of list.now) }
 {
     let n = list.len() / 32;
     let mut ledger = ledger::fresh(is_new);

@@ -1,7 +1,7 @@
 // Where a list of entries falls into sections.
 ghost use Rattle.std.specs.Prelude.{◌≡◌, [], ◌%◌, ◌<◌, length, get_or};
-ghost use Rattle.archive.specs.Entries.{entriesOf};
-ghost use Rattle.archive.specs.Layout.{sectionsOf};
+ghost use Rattle.archive.specs.Entries.{entries_of};
+ghost use Rattle.archive.specs.Layout.{sections_of};
 
 use crate::entries::closes_month;
 
@@ -12,7 +12,7 @@ pub const MOST_BYTES: usize = 4294967295;
 // How many bytes the first section has.
 pub fn first_section(list: &[u8]) -> usize
     requires { length list.now % 32 ≡ 0 }
-    ensures { result ≡ length (get_or (sectionsOf (entriesOf list.now)) 0 []) }
+    ensures { result ≡ length (get_or (sections_of (entries_of list.now)) 0 []) }
 {
     let n = list.len() / 32;
     for k in 0..n {
@@ -28,7 +28,7 @@ pub fn first_section(list: &[u8]) -> usize
 // How many sections there are.
 pub fn count_sections(list: &[u8]) -> usize
     requires { length list.now % 32 ≡ 0 }
-    ensures { result ≡ length (sectionsOf (entriesOf list.now)) }
+    ensures { result ≡ length (sections_of (entries_of list.now)) }
 {
     let n = list.len();
     let mut at = 0;

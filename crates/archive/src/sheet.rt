@@ -1,9 +1,9 @@
 // The year sheet: accounts by months.
 ghost use Rattle.std.specs.Prelude.{◌≡◌, cond, ◌<◌, eqb, length};
-ghost use Rattle.ledger.specs.Entries.{entryOf};
+ghost use Rattle.ledger.specs.Entries.{entry_of};
 ghost use Rattle.ledger.specs.State.{fresh};
-ghost use Rattle.archive.specs.Entries.{entriesOf};
-ghost use Rattle.archive.specs.YearSheet.{grid, noBank, cellAt, bankIn, inGasYear, closesIn, cellAfter};
+ghost use Rattle.archive.specs.Entries.{entries_of};
+ghost use Rattle.archive.specs.YearSheet.{grid, no_bank, cell_at, bank_in, in_gas_year, closes_in, cell_after};
 
 use crate::entries::closes_month;
 use crate::words::half;
@@ -12,7 +12,7 @@ use tariff::amounts::Units;
 use tariff::months::Month;
 
 pub fn empty_sheet() -> [[Units; 12]; 16]
-    ensures { result ≡ grid (λ i m. noBank) }
+    ensures { result ≡ grid (λ i m. no_bank) }
 {
     [[Units(0); 12]; 16]
 }
@@ -20,7 +20,7 @@ pub fn empty_sheet() -> [[Units; 12]; 16]
 // Whether an entry's date lies from April of a year to March of the next.
 fn in_gas_year(entry: &[u8], year: u64) -> bool
     requires { length entry.now ≡ 32 }
-    ensures { result ≡ inGasYear year (entryOf entry.now).date }
+    ensures { result ≡ in_gas_year year (entry_of entry.now).date }
 {
     let dated = half(entry, 4) as u64;
     if 4 <= entry[6] {
@@ -34,8 +34,8 @@ fn in_gas_year(entry: &[u8], year: u64) -> bool
 
 // The sheet with every account's bank in the column of a month.
 fn with_column(sheet: [[Units; 12]; 16], ledger: Ledger, month: usize) -> [[Units; 12]; 16]
-    requires { (sheet ≡ grid (cellAt sheet)) × (month < 12) }
-    ensures { result ≡ grid (λ i m. cond (eqb month m) (bankIn ledger i) (cellAt sheet i m)) }
+    requires { (sheet ≡ grid (cell_at sheet)) × (month < 12) }
+    ensures { result ≡ grid (λ i m. cond (eqb month m) (bank_in ledger i) (cell_at sheet i m)) }
 {
     let mut next = sheet;
     let mut i = 0;
@@ -49,7 +49,7 @@ fn with_column(sheet: [[Units; 12]; 16], ledger: Ledger, month: usize) -> [[Unit
 
 // The sheet of an old list of entries, or a new one, posted to a fresh ledger.
 pub fn sheet_of(is_new: bool, list: &[u8], year: u64) -> [[Units; 12]; 16]
-    ensures { result ≡ grid (λ i m. cellAfter year i m noBank (fresh is_new) (entriesOf list.now)) }
+    ensures { result ≡ grid (λ i m. cell_after year i m no_bank (fresh is_new) (entries_of list.now)) }
 {
     let n = list.len() / 32;
     let mut ledger = ledger::fresh(is_new);
@@ -74,8 +74,8 @@ fn noted(
     entry: &[u8],
     year: u64,
 ) -> [[Units; 12]; 16]
-    requires { (sheet ≡ grid (cellAt sheet)) × (length entry.now ≡ 32) }
-    ensures { result ≡ grid (λ i m. cond (closesIn year m number entry.now) (bankIn ledger i) (cellAt sheet i m)) }
+    requires { (sheet ≡ grid (cell_at sheet)) × (length entry.now ≡ 32) }
+    ensures { result ≡ grid (λ i m. cond (closes_in year m number entry.now) (bank_in ledger i) (cell_at sheet i m)) }
 {
     if number != 0 {
         return sheet;

@@ -1,8 +1,8 @@
 // Numbers in bytes, the low byte first.
 ghost use Rattle.std.specs.Prelude.{◌≡◌, ◌+◌, ◌<◌, ◌≤◌, length};
 ghost use Rattle.std.proofs.Math.Seq.{paste};
-ghost use Rattle.ledger.specs.Entries.{halfAt, wordAt};
-ghost use Rattle.archive.specs.Words.{bytesOf};
+ghost use Rattle.ledger.specs.Entries.{half_at, word_at};
+ghost use Rattle.archive.specs.Words.{bytes_of};
 
 fn wide(b: u8) -> usize
     ensures { (result ≡ b) × (result < 256) }
@@ -12,7 +12,7 @@ fn wide(b: u8) -> usize
 
 pub fn half(bytes: &[u8], at: usize) -> usize
     requires { at + 2 ≤ length bytes.now }
-    ensures value { result ≡ halfAt bytes.now at }
+    ensures value { result ≡ half_at bytes.now at }
     ensures bounded { result < 65536 }
 {
     wide(bytes[at]) + 256 * wide(bytes[at + 1])
@@ -20,7 +20,7 @@ pub fn half(bytes: &[u8], at: usize) -> usize
 
 pub fn word(bytes: &[u8], at: usize) -> usize
     requires { at + 4 ≤ length bytes.now }
-    ensures value { result ≡ wordAt bytes.now at }
+    ensures value { result ≡ word_at bytes.now at }
     ensures bounded { result < 4294967296 }
 {
     wide(bytes[at])
@@ -30,7 +30,7 @@ pub fn word(bytes: &[u8], at: usize) -> usize
 // Stores a number in the four bytes at a place.
 pub fn put_word(out: &mut [u8], at: usize, n: usize)
     requires { at + 4 ≤ length out.old }
-    ensures { out.new ≡ paste out.old at (bytesOf 4 n) 4 }
+    ensures { out.new ≡ paste out.old at (bytes_of 4 n) 4 }
 {
     out[at] = (n % 256) as u8;
     out[at + 1] = (n / 256 % 256) as u8;

@@ -1,8 +1,8 @@
 // The writer: first what it will answer, then the bytes.
 ghost use Rattle.std.specs.Prelude.{◌≡◌, ◌++◌, ◌+◌, ◌*◌, ◌%◌, ◌≤◌, length, drop};
 ghost use Rattle.std.proofs.Math.Seq.{paste};
-ghost use Rattle.archive.specs.Entries.{entriesOf};
-ghost use Rattle.archive.specs.Layout.{mostBytes, mostSections, sectionsOf, header, directory, bodyAt, archiveOf};
+ghost use Rattle.archive.specs.Entries.{entries_of};
+ghost use Rattle.archive.specs.Layout.{most_bytes, most_sections, sections_of, header, directory, body_at, archive_of};
 ghost use Rattle.archive.specs.Writing.{unwritten, written};
 
 use crate::entries::check_list;
@@ -79,8 +79,8 @@ fn put_header(is_new: bool, out: &mut [u8], count: usize)
 
 // A pair for each section.
 fn put_directory(out: &mut [u8], list: &[u8], count: usize)
-    requires { (length list.now % 32 ≡ 0) × (count ≡ length (sectionsOf (entriesOf list.now))) × (count ≤ mostSections) × (length list.now ≤ mostBytes) × (8 + 8 * count ≤ length out.old) }
-    ensures { out.new ≡ paste out.old 8 (directory (bodyAt count) (sectionsOf (entriesOf list.now))) (8 * count) }
+    requires { (length list.now % 32 ≡ 0) × (count ≡ length (sections_of (entries_of list.now))) × (count ≤ most_sections) × (length list.now ≤ most_bytes) × (8 + 8 * count ≤ length out.old) }
+    ensures { out.new ≡ paste out.old 8 (directory (body_at count) (sections_of (entries_of list.now))) (8 * count) }
 {
     let n = list.len();
     let first = 8 + 8 * count;
@@ -122,7 +122,7 @@ fn put_sections(out: &mut [u8], list: &[u8], body: usize)
 // The archive of a list that `plan` accepts, at the start of the output.
 pub fn put_archive(is_new: bool, out: &mut [u8], list: &[u8])
     requires { (written is_new list.now (length out.old)).number ≡ 0 }
-    ensures { out.new ≡ archiveOf is_new list.now ++ drop (length (archiveOf is_new list.now)) out.old }
+    ensures { out.new ≡ archive_of is_new list.now ++ drop (length (archive_of is_new list.now)) out.old }
 {
     let count = count_sections(list);
     let body = 8 + 8 * count;

@@ -3,10 +3,10 @@ use Rattle.std.specs.Prelude.{ℕ, ◌*◌, ℤ, pos, neg_ℤ, Bool, true, false
 use Rattle.backcast.specs.Vocabulary.{nan, inf, fin, up, down}
 
 -- R89: not-a-number and the two infinities are none.
-unfoldable pub isNumber : Float → Bool
-isNumber nan = false
-isNumber (inf s) = false
-isNumber (fin s m e) = true
+unfoldable pub is_number : Float → Bool
+is_number nan = false
+is_number (inf s) = false
+is_number (fin s m e) = true
 
 -- R89: the value of a number, with nothing rounded, is the fraction numerator / denominator. Both zeros have the value 0.
 unfoldable pub numerator : Float → ℤ

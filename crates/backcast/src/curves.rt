@@ -1,6 +1,6 @@
 // The load curve: what a supplier's customers take at a temperature.
 ghost use Rattle.std.specs.Prelude.{◌≡◌};
-ghost use Rattle.backcast.specs.Load.{allNumbers, loadOf};
+ghost use Rattle.backcast.specs.Load.{all_numbers, load_of};
 
 use crate::doubles::is_number;
 
@@ -16,14 +16,14 @@ pub struct LoadCurve {
 impl LoadCurve {
     // Whether all of it, and the temperature f, are numbers.
     pub fn numbers(self, f: f64) -> bool
-        ensures { result ≡ allNumbers self f }
+        ensures { result ≡ all_numbers self f }
     {
         is_number(self.base) & is_number(self.slope) & is_number(self.turning) & is_number(f)
     }
 
     // The load at temperature f, each operation rounded once.
     pub fn load(self, f: f64) -> f64
-        ensures { result ≡ loadOf self f }
+        ensures { result ≡ load_of self f }
     {
         let base = self.base;
         let turning = self.turning;

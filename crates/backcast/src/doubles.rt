@@ -1,13 +1,13 @@
 // Questions to one double.
 ghost use Rattle.std.specs.Prelude.{◌≡◌, true};
-ghost use Rattle.backcast.specs.Doubles.{isNumber};
-ghost use Rattle.backcast.specs.Answers.{isQuantity, wholePart};
+ghost use Rattle.backcast.specs.Doubles.{is_number};
+ghost use Rattle.backcast.specs.Answers.{is_quantity, whole_part};
 
 use tariff::bounds::MOST_UNITS;
 
 // Neither an infinity nor not-a-number.
 pub fn is_number(x: f64) -> bool
-    ensures { result ≡ isNumber x }
+    ensures { result ≡ is_number x }
 {
     let infinity = 1.0 / 0.0;
     (-infinity < x) & (x < infinity)
@@ -15,15 +15,15 @@ pub fn is_number(x: f64) -> bool
 
 // A number from 0 to 10^9.
 pub fn is_quantity(x: f64) -> bool
-    ensures { result ≡ isQuantity x }
+    ensures { result ≡ is_quantity x }
 {
     (0.0 <= x) & (x <= 1000000000.0)
 }
 
 // The greatest whole number not above x, by halving what it can be: no cast has to round.
 pub fn whole_part(x: f64) -> u64
-    requires { isQuantity x ≡ true }
-    ensures { result ≡ wholePart x }
+    requires { is_quantity x ≡ true }
+    ensures { result ≡ whole_part x }
 {
     let mut low: u64 = 0;
     let mut high: u64 = MOST_UNITS;

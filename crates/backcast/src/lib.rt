@@ -7,7 +7,7 @@ mod doubles;
 
 // The types that cross the boundary; the functions that do stand below, and none of them requires anything.
 ghost use Rattle.std.specs.Prelude.{◌≡◌};
-ghost use Rattle.backcast.specs.Answers.{backCast};
+ghost use Rattle.backcast.specs.Answers.{back_cast};
 ghost use Rattle.backcast.specs.GreatestWhole.{EveryAnswer, OnlyOne};
 ghost use Rattle.backcast.specs.ExactCase.{WholeNumbersAreDoubles, WholeNumbersAreExact};
 ghost use Rattle.backcast.specs.WorkedCases.{WorkedCases};
@@ -20,7 +20,7 @@ use tariff::amounts::Quantity;
 
 // The back-cast at temperature f; 31 where one of the four is no number, 32 where the load is no quantity of gas.
 pub fn back_cast(curve: LoadCurve, f: f64) -> BackCast
-    ensures { result ≡ backCast curve f }
+    ensures { result ≡ back_cast curve f }
 {
     if !curve.numbers(f) {
         return refused(31);

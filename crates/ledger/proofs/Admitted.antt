@@ -4,76 +4,76 @@ use mathlib.Core.Path.{◌≡◌, refl, sym, ◌∙◌}
 use mathlib.Core.Bool.{Bool, true, false, cond, not, ◌&&◌}
 use lib.Dec.{eqb, leb}
 use borrow.Author.Tests.{eqb-true, eq-eqb, ne_eqb, not-false}
-use Rattle.tariff.specs.Dates.{real, sameDate}
+use Rattle.tariff.specs.Dates.{real, same_date}
 use Rattle.ledger.specs.Checks.{verdict}
-use Rattle.ledger.specs.Kinds.{kindOf, version}
-use Rattle.ledger.specs.Forms.{fieldChecks, fieldNumber, entryChecks, entryNumber}
-use Rattle.ledger.specs.Ranges.{inRange}
-use Rattle.ledger.specs.Days.{wrongDay}
-use Rattle.ledger.specs.State.{heldIn}
-use Rattle.ledger.specs.Posting.{standingChecks, admission}
+use Rattle.ledger.specs.Kinds.{kind_of, version}
+use Rattle.ledger.specs.Forms.{field_checks, field_number, entry_checks, entry_number}
+use Rattle.ledger.specs.Ranges.{in_range}
+use Rattle.ledger.specs.Days.{wrong_day}
+use Rattle.ledger.specs.State.{held_in}
+use Rattle.ledger.specs.Posting.{standing_checks, admission}
 use Rattle.ledger.specs.Structs.{Entry, Ledger}
 use Rattle.ledger.proofs.RightEntries as right
-use Rattle.ledger.proofs.Verdicts.{first, clear, verdict-append}
+use Rattle.ledger.proofs.Verdicts.{first, clear, verdict_append}
 
 module _ (l : Ledger) (e : Entry) where
   abbrev own : ℕ
-  own = entryNumber l.is_new e
+  own = entry_number l.is_new e
 
-  admission-by : admission l e ≡ cond (eqb own 0) (verdict (standingChecks l e)) own
-  unfolding admission entryNumber entryChecks fieldChecks
-  admission-by = verdict-append (entryChecks l.is_new e) (standingChecks l e) refl
+  admission_by : admission l e ≡ cond (eqb own 0) (verdict (standing_checks l e)) own
+  unfolding admission entry_number entry_checks field_checks
+  admission_by = verdict_append (entry_checks l.is_new e) (standing_checks l e) refl
 
   -- an entry wrong in itself is refused for that
-  pub admission-own : (own ≡ 0 → ⊥) → admission l e ≡ own
-  admission-own wrong = rw (admission-by, ne_eqb own 0 wrong)
+  pub admission_own : (own ≡ 0 → ⊥) → admission l e ≡ own
+  admission_own wrong = rw (admission_by, ne_eqb own 0 wrong)
 
   -- one right in itself is refused for what the ledger says
-  pub admission-standing : own ≡ 0 → admission l e ≡ verdict (standingChecks l e)
-  admission-standing right = rw (admission-by, eq-eqb own 0 right)
+  pub admission_standing : own ≡ 0 → admission l e ≡ verdict (standing_checks l e)
+  admission_standing right = rw (admission_by, eq-eqb own 0 right)
 
   -- one that is not refused is right in itself
-  own-number : admission l e ≡ 0 → own ≡ 0
-  own-number h = go (eqb own 0) own (verdict (standingChecks l e)) refl (sym admission-by ∙ h)
+  own_number : admission l e ≡ 0 → own ≡ 0
+  own_number h = go (eqb own 0) own (verdict (standing_checks l e)) refl (sym admission_by ∙ h)
     where
       go : (t : Bool) (n m : ℕ) → eqb n 0 ≡ t → cond t m n ≡ 0 → n ≡ 0
       go true n m z q = eqb-true n 0 z
       go false n m z q = q
 
 -- the number of an entry right in itself has none of 2 to 7
-pub own-right : (new : Bool) (e : Entry) → entryNumber new e ≡ 0 → fieldNumber e ≡ 0
-unfolding entryNumber entryChecks fieldNumber verdict
-own-right new e z = (first (not (leb (kindOf e.kind).since (version new))) 2 (fieldNumber e) refl z).1
+pub own_right : (new : Bool) (e : Entry) → entry_number new e ≡ 0 → field_number e ≡ 0
+unfolding entry_number entry_checks field_number verdict
+own_right new e z = (first (not (leb (kind_of e.kind).since (version new))) 2 (field_number e) refl z).1
 
 module _ (l : Ledger) (e : Entry) (h : admission l e ≡ 0) where
-  pub is-right : fieldNumber e ≡ 0
-  is-right = own-right l.is_new e (own-number l e h)
+  pub is_right : field_number e ≡ 0
+  is_right = own_right l.is_new e (own_number l e h)
 
-  pub is-real : real e.date ≡ true
-  is-real = right.is-real e is-right
+  pub is_real_lem : real e.date ≡ true
+  is_real_lem = right.is_real_lem e is_right
 
-  pub is-ranged : inRange l ≡ true
-  unfolding admission entryChecks fieldChecks standingChecks
-  is-ranged = not-false (inRange l) (clear _ refl h 6)
+  pub is_ranged : in_range l ≡ true
+  unfolding admission entry_checks field_checks standing_checks
+  is_ranged = not-false (in_range l) (clear _ refl h 6)
 
-  not-begun-checked : not l.begun && not (eqb e.kind 1) ≡ false
-  unfolding admission entryChecks fieldChecks standingChecks
-  not-begun-checked = clear _ refl h 7
+  not_begun_checked : not l.begun && not (eqb e.kind 1) ≡ false
+  unfolding admission entry_checks field_checks standing_checks
+  not_begun_checked = clear _ refl h 7
 
   -- another kind than TERMS comes to a ledger that has begun
-  pub is-begun : (e.kind ≡ 1 → ⊥) → l.begun ≡ true
-  is-begun n = go l.begun (rw (ne_eqb e.kind 1 n) at not-begun-checked)
+  pub is_begun : (e.kind ≡ 1 → ⊥) → l.begun ≡ true
+  is_begun n = go l.begun (rw (ne_eqb e.kind 1 n) at not_begun_checked)
     where
       go : (b : Bool) → not b && true ≡ false → b ≡ true
       go true q = refl
       go false q = sym q
 
   -- and, where that has begun, to its day
-  pub is-today : l.begun ≡ true → sameDate e.date l.date ≡ true
-  unfolding admission entryChecks fieldChecks standingChecks
-  is-today begun = not-false (sameDate e.date l.date) (rw begun at (clear _ refl h 8))
+  pub is_today : l.begun ≡ true → same_date e.date l.date ≡ true
+  unfolding admission entry_checks field_checks standing_checks
+  is_today begun = not-false (same_date e.date l.date) (rw begun at (clear _ refl h 8))
 
   -- it is a day that the kind may have
-  pub is-day : wrongDay l.touched (heldIn l) e ≡ false
-  unfolding admission entryChecks fieldChecks standingChecks
-  is-day = clear _ refl h 9
+  pub is_day : wrong_day l.touched (held_in l) e ≡ false
+  unfolding admission entry_checks field_checks standing_checks
+  is_day = clear _ refl h 9

@@ -6,34 +6,34 @@ use native.Mathlib.Omega.{arith}
 use lib.Dec.{leb}
 use lib.ListN.{length}
 use borrow.Author.Tests.{leb-true}
-use Rattle.tariff.specs.Amounts.{size, sizeMills}
+use Rattle.tariff.specs.Amounts.{size, size_mills}
 use Rattle.tariff.specs.Dates.{real}
-use Rattle.tariff.specs.Holidays.{holidaysInRange}
-use Rattle.tariff.specs.Terms.{termsInRange}
+use Rattle.tariff.specs.Holidays.{holidays_in_range}
+use Rattle.tariff.specs.Terms.{terms_in_range}
 use Rattle.ledger.specs.Structs.{Account, Ledger, Totals}
-use Rattle.tariff.proofs.Bools.{and-left, and-right, parts}
-use Rattle.tariff.proofs.Laws.{within-size, within-mills-size}
-use Rattle.ledger.specs.State.{nobody, accountAt}
-use Rattle.ledger.specs.Ranges.{totalsInRange, stepInRange, accountInRange, everyAccount, inRange}
-use Rattle.ledger.proofs.Lists.{every-at}
+use Rattle.tariff.proofs.Bools.{and_left, and_right, parts}
+use Rattle.tariff.proofs.Laws.{within_size, within_mills_size}
+use Rattle.ledger.specs.State.{nobody, account_at}
+use Rattle.ledger.specs.Ranges.{totals_in_range, step_in_range, account_in_range, every_account, in_range}
+use Rattle.ledger.proofs.Lists.{every_at}
 
 pub record TotalsBounded (m : Totals) : Type 0 where
   pub net : size m.net ≤ 100000000000
   pub sales : m.sales.0 ≤ 100000000000
   pub purchases : m.purchases.0 ≤ 100000000000
-  pub cash-ins : m.cash_ins.0 ≤ 100000000000
-  pub cash-outs : m.cash_outs.0 ≤ 100000000000
+  pub cash_ins : m.cash_ins.0 ≤ 100000000000
+  pub cash_outs : m.cash_outs.0 ≤ 100000000000
   pub usage : m.usage.0 ≤ 100000000
 
-totals-bounded : (m : Totals) → totalsInRange m ≡ true → TotalsBounded m
-unfolding totalsInRange
-totals-bounded m h =
+totals_bounded : (m : Totals) → totals_in_range m ≡ true → TotalsBounded m
+unfolding totals_in_range
+totals_bounded m h =
     record {
-      net = within-size 100000000000 100000000000 m.net (search parts depth 8) (omega arith);
+      net = within_size 100000000000 100000000000 m.net (search parts depth 8) (omega arith);
       sales = leb-true m.sales.0 100000000000 (search parts depth 8);
       purchases = leb-true m.purchases.0 100000000000 (search parts depth 8);
-      cash-ins = leb-true m.cash_ins.0 100000000000 (search parts depth 8);
-      cash-outs = leb-true m.cash_outs.0 100000000000 (search parts depth 8);
+      cash_ins = leb-true m.cash_ins.0 100000000000 (search parts depth 8);
+      cash_outs = leb-true m.cash_outs.0 100000000000 (search parts depth 8);
       usage = leb-true m.usage.0 100000000 (search parts depth 8);
     }
 
@@ -46,22 +46,22 @@ pub record Bounded (a : Account) : Type 0 where
   pub mddq : a.capacity.mddq.0 ≤ 300000
   pub bcq : a.capacity.bcq.0 ≤ 30000000
   pub carry : a.carry.0 ≤ 100000000000
-  pub owed : sizeMills a.owed ≤ 1000000000000000
+  pub owed : size_mills a.owed ≤ 1000000000000000
   pub days : a.violation_days ≤ 40000
 
-pub bounded : (a : Account) → accountInRange a ≡ true → Bounded a
-unfolding accountInRange stepInRange
+pub bounded : (a : Account) → account_in_range a ≡ true → Bounded a
+unfolding account_in_range step_in_range
 bounded a h =
     record {
-      bank = within-size 1000000000 100000000000 a.bank (search parts depth 9) (omega arith);
-      totals = totals-bounded a.month.totals (search parts depth 9);
+      bank = within_size 1000000000 100000000000 a.bank (search parts depth 9) (omega arith);
+      totals = totals_bounded a.month.totals (search parts depth 9);
       over = leb-true a.step.over 2 (search parts depth 9);
       under = leb-true a.step.under 2 (search parts depth 9);
       mdq = leb-true a.mdq.0 300000 (search parts depth 9);
       mddq = leb-true a.capacity.mddq.0 300000 (search parts depth 9);
       bcq = leb-true a.capacity.bcq.0 30000000 (search parts depth 9);
       carry = leb-true a.carry.0 100000000000 (search parts depth 9);
-      owed = within-mills-size 1000000000000000 a.owed (search parts depth 9);
+      owed = within_mills_size 1000000000000000 a.owed (search parts depth 9);
       days = leb-true a.violation_days 40000 (search parts depth 9);
     }
 
@@ -70,15 +70,15 @@ pub record Stepped (a : Account) : Type 0 where
   pub k : (1 ≤ a.step.k) × (a.step.k ≤ 100)
   pub pending : (1 ≤ a.step.pending) × (a.step.pending ≤ 100)
 
-or-else : (a b : Bool) → a || b ≡ true → a ≡ false → b ≡ true
-or-else true b h e = absurd (true≢false e)
-or-else false b h e = h
+or_else : (a b : Bool) → a || b ≡ true → a ≡ false → b ≡ true
+or_else true b h e = absurd (true≢false e)
+or_else false b h e = h
 
-pub stepped : (a : Account) → accountInRange a ≡ true → a.opened ≡ true → Stepped a
-unfolding accountInRange stepInRange
+pub stepped : (a : Account) → account_in_range a ≡ true → a.opened ≡ true → Stepped a
+unfolding account_in_range step_in_range
 stepped a h o =
     let steps : leb 1 a.step.k && leb a.step.k 100 && (leb 1 a.step.pending && leb a.step.pending 100) ≡ true =
-    or-else (not a.opened) (leb 1 a.step.k && leb a.step.k 100 && (leb 1 a.step.pending && leb a.step.pending 100)) (search parts depth 9) (rw o) in
+    or_else (not a.opened) (leb 1 a.step.k && leb a.step.k 100 && (leb 1 a.step.pending && leb a.step.pending 100)) (search parts depth 9) (rw o) in
     record {
       k = (leb-true 1 a.step.k (search parts), leb-true a.step.k 100 (search parts));
       pending = (leb-true 1 a.step.pending (search parts), leb-true a.step.pending 100 (search parts));
@@ -87,26 +87,26 @@ stepped a h o =
 -- ---- a ledger in range, by its three parts
 
 pub record Ranged (l : Ledger) : Type 0 where
-  pub dated : not l.begun || (real l.date && termsInRange l.terms) ≡ true
-  pub held : holidaysInRange l.holidays ≡ true
-  pub accounts : everyAccount accountInRange l.accounts ≡ true
+  pub dated : not l.begun || (real l.date && terms_in_range l.terms) ≡ true
+  pub held : holidays_in_range l.holidays ≡ true
+  pub accounts : every_account account_in_range l.accounts ≡ true
 
-pub ranged-parts : (l : Ledger) → inRange l ≡ true → Ranged l
-unfolding inRange
-ranged-parts l h = record { dated = search parts; held = search parts; accounts = search parts }
+pub ranged_parts : (l : Ledger) → in_range l ≡ true → Ranged l
+unfolding in_range
+ranged_parts l h = record { dated = search parts; held = search parts; accounts = search parts }
 
-pub ranged-whole : (l : Ledger) → Ranged l → inRange l ≡ true
-unfolding inRange
-ranged-whole l r = rw (r.dated, r.held) r.accounts
+pub ranged_whole : (l : Ledger) → Ranged l → in_range l ≡ true
+unfolding in_range
+ranged_whole l r = rw (r.dated, r.held) r.accounts
 
 -- every account of a ledger in range is in range
-pub account-ranged : (l : Ledger) (i : ℕ) → length l.accounts ≡ 16 → i < 16 → inRange l ≡ true → accountInRange (accountAt l i) ≡ true
-unfolding accountAt
-account-ranged l i n h e = every-at accountInRange l.accounts i nobody (omega arith) (ranged-parts l e).accounts
+pub account_ranged : (l : Ledger) (i : ℕ) → length l.accounts ≡ 16 → i < 16 → in_range l ≡ true → account_in_range (account_at l i) ≡ true
+unfolding account_at
+account_ranged l i n h e = every_at account_in_range l.accounts i nobody (omega arith) (ranged_parts l e).accounts
 
 -- once begun, terms and date are in range
-pub begun-ranged : (l : Ledger) → inRange l ≡ true → l.begun ≡ true → (real l.date ≡ true) × (termsInRange l.terms ≡ true)
-begun-ranged l e o =
-    let both : real l.date && termsInRange l.terms ≡ true =
-    or-else (not l.begun) (real l.date && termsInRange l.terms) (ranged-parts l e).dated (rw o) in
-    (and-left (real l.date) (termsInRange l.terms) both, and-right (real l.date) (termsInRange l.terms) both)
+pub begun_ranged : (l : Ledger) → in_range l ≡ true → l.begun ≡ true → (real l.date ≡ true) × (terms_in_range l.terms ≡ true)
+begun_ranged l e o =
+    let both : real l.date && terms_in_range l.terms ≡ true =
+    or_else (not l.begun) (real l.date && terms_in_range l.terms) (ranged_parts l e).dated (rw o) in
+    (and_left (real l.date) (terms_in_range l.terms) both, and_right (real l.date) (terms_in_range l.terms) both)

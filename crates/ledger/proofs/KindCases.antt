@@ -29,14 +29,14 @@ inner : {A : Type 0} (R : Type 0) (kind : ℕ) (table : List (ℕ × A)) → Abs
 inner R kind [] a = a
 inner R kind (r ∷ rest) a = (inner (R × (kind ≡ r.0 → ⊥)) kind rest a).0
 
-absent-by : {A : Type 0} (R : Type 0) (kind : ℕ) (table : List (ℕ × A)) (x : A) → Absent R kind table → x ≡ lookup kind table x
+absent_by : {A : Type 0} (R : Type 0) (kind : ℕ) (table : List (ℕ × A)) (x : A) → Absent R kind table → x ≡ lookup kind table x
 unfolding lookup
-absent-by R kind [] x a = refl
-absent-by R kind (r ∷ rest) x a =
-    let more : Type 0 = R × (kind ≡ r.0 → ⊥) in rw (ne_eqb kind r.0 (inner more kind rest a).1) (absent-by more kind rest x a)
+absent_by R kind [] x a = refl
+absent_by R kind (r ∷ rest) x a =
+    let more : Type 0 = R × (kind ≡ r.0 → ⊥) in rw (ne_eqb kind r.0 (inner more kind rest a).1) (absent_by more kind rest x a)
 
 pub absent : {A : Type 0} (kind : ℕ) (table : List (ℕ × A)) (x y : A) → Absent (Unit {0}) kind table → y ≡ x → y ≡ lookup kind table x
-absent kind table x y a p = p ∙ absent-by (Unit {0}) kind table x a
+absent kind table x y a p = p ∙ absent_by (Unit {0}) kind table x a
 
 -- the kind is n, and y is what the table has for n
 pub at : {A : Type 0} (kind : ℕ) {n : ℕ} (table : List (ℕ × A)) (x y : A) → kind ≡ n → y ≡ lookup n table x → y ≡ lookup kind table x

@@ -5,38 +5,38 @@ use lib.IntN.{ℤ, pos, neg_ℤ, ◌+ℤ◌}
 use borrow.Author.Tests.{not-false}
 use Rattle.tariff.specs.Amounts.{more, less}
 use Rattle.ledger.specs.Structs.{Account, Change, Month, Quantity}
-use Rattle.tariff.proofs.Laws.{more-value, less-value}
-use Rattle.ledger.specs.Gas.{afterGiving, afterTaking, givingChecks, takingChecks, giving, taking}
-use Rattle.ledger.specs.Panel.{openBank}
-use Rattle.ledger.specs.Ranges.{accountInRange}
-use Rattle.ledger.specs.State.{withBank}
+use Rattle.tariff.proofs.Laws.{more_value, less_value}
+use Rattle.ledger.specs.Gas.{after_giving, after_taking, giving_checks, taking_checks, giving, taking}
+use Rattle.ledger.specs.Panel.{open_bank}
+use Rattle.ledger.specs.Ranges.{account_in_range}
+use Rattle.ledger.specs.State.{with_bank}
 use Rattle.ledger.proofs.Verdicts.{clear}
-use Rattle.ledger.proofs.ClosedAccounts.{openOwed, openDays, grows}
+use Rattle.ledger.proofs.ClosedAccounts.{open_owed, open_days, grows}
 
 -- a change of a, whose bank grows by y
 pub record Moved (a : Account) (y : ℤ) (c : Change) : Type 0 where
-  pub ranged : c.number ≡ 0 → accountInRange c.account ≡ true
-  pub bank : a.opened ≡ true → openBank c.account ≡ openBank a +ℤ y
-  pub debt : openOwed c.account ≡ openOwed a
-  pub days : openDays c.account ≡ openDays a
+  pub ranged : c.number ≡ 0 → account_in_range c.account ≡ true
+  pub bank : a.opened ≡ true → open_bank c.account ≡ open_bank a +ℤ y
+  pub debt : open_owed c.account ≡ open_owed a
+  pub days : open_days c.account ≡ open_days a
 
 module _ (m : Month) (a : Account) (q : Quantity) where
   pub gives : Moved a (neg_ℤ (pos q.0)) (giving m a q)
-  unfolding giving givingChecks afterGiving withBank openBank
+  unfolding giving giving_checks after_giving with_bank open_bank
   gives =
       record {
-        ranged = λ o. not-false (accountInRange (afterGiving a q)) (clear _ refl o 1);
-        bank = λ o. grows a.opened (less a.bank q).0 a.bank.0 (neg_ℤ (pos q.0)) o (less-value a.bank q);
+        ranged = λ o. not-false (account_in_range (after_giving a q)) (clear _ refl o 1);
+        bank = λ o. grows a.opened (less a.bank q).0 a.bank.0 (neg_ℤ (pos q.0)) o (less_value a.bank q);
         debt = refl;
         days = refl;
       }
 
   pub takes : Moved a (pos q.0) (taking m a q)
-  unfolding taking takingChecks afterTaking withBank openBank
+  unfolding taking taking_checks after_taking with_bank open_bank
   takes =
       record {
-        ranged = λ o. not-false (accountInRange (afterTaking a q)) (clear _ refl o 1);
-        bank = λ o. grows a.opened (more a.bank q).0 a.bank.0 (pos q.0) o (more-value a.bank q);
+        ranged = λ o. not-false (account_in_range (after_taking a q)) (clear _ refl o 1);
+        bank = λ o. grows a.opened (more a.bank q).0 a.bank.0 (pos q.0) o (more_value a.bank q);
         debt = refl;
         days = refl;
       }

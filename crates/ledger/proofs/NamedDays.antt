@@ -6,48 +6,48 @@ use mathlib.Core.List.{[], ◌∷◌, ◌++◌}
 use lib.Dec.{leb}
 use borrow.Author.Tests.{leb-false, not-false}
 use Rattle.tariff.specs.Dates.{before, real}
-use Rattle.tariff.specs.Holidays.{holidaysInRange, leavesOne, named, storedDates}
-use Rattle.tariff.proofs.Bools.{and-left, and-right, or-left}
-use Rattle.tariff.proofs.BusinessDays.{naming-ranged}
-use Rattle.tariff.proofs.HeldDates.{held-stored}
+use Rattle.tariff.specs.Holidays.{holidays_in_range, leaves_one, named, stored_dates}
+use Rattle.tariff.proofs.Bools.{and_left, and_right, or_left}
+use Rattle.tariff.proofs.BusinessDays.{naming_ranged}
+use Rattle.tariff.proofs.HeldDates.{held_stored}
 use Rattle.ledger.specs.Checks.{verdict}
-use Rattle.ledger.specs.Holiday.{holding, holidayChecks}
-use Rattle.ledger.specs.Ranges.{inRange}
-use Rattle.ledger.specs.State.{heldIn, withHolidays}
+use Rattle.ledger.specs.Holiday.{holding, holiday_checks}
+use Rattle.ledger.specs.Ranges.{in_range}
+use Rattle.ledger.specs.State.{held_in, with_holidays}
 use Rattle.ledger.specs.Structs.{Date, Ledger}
-use Rattle.ledger.proofs.Bounded.{ranged-parts, ranged-whole}
+use Rattle.ledger.proofs.Bounded.{ranged_parts, ranged_whole}
 use Rattle.ledger.proofs.Verdicts.{clear}
 
 module _ (l : Ledger) (d : Date) where
-  pub held-next : heldIn (holding l d) ≡ heldIn l ++ (d ∷ [])
-  unfolding heldIn holding withHolidays
-  held-next = held-stored (heldIn l ++ (d ∷ []))
+  pub held_next : held_in (holding l d) ≡ held_in l ++ (d ∷ [])
+  unfolding held_in holding with_holidays
+  held_next = held_stored (held_in l ++ (d ∷ []))
 
-  module _ (o : verdict (holidayChecks l d) ≡ 0) where
-    real-later : real d && before l.date d ≡ true
-    unfolding holidayChecks
-    real-later = not-false (real d && before l.date d) (clear _ refl o 0)
+  module _ (o : verdict (holiday_checks l d) ≡ 0) where
+    real_later : real d && before l.date d ≡ true
+    unfolding holiday_checks
+    real_later = not-false (real d && before l.date d) (clear _ refl o 0)
 
-    pub is-real-day : real d ≡ true
-    is-real-day = and-left (real d) (before l.date d) real-later
+    pub is_real_day : real d ≡ true
+    is_real_day = and_left (real d) (before l.date d) real_later
 
-    pub is-later : before l.date d ≡ true
-    is-later = and-right (real d) (before l.date d) real-later
+    pub is_later_lem : before l.date d ≡ true
+    is_later_lem = and_right (real d) (before l.date d) real_later
 
-    pub has-room : l.holidays.count < 16
-    unfolding holidayChecks
-    has-room = leb-false 16 l.holidays.count (or-left (leb 16 l.holidays.count) (named (heldIn l) d) (clear _ refl o 1))
+    pub has_room : l.holidays.count < 16
+    unfolding holiday_checks
+    has_room = leb-false 16 l.holidays.count (or_left (leb 16 l.holidays.count) (named (held_in l) d) (clear _ refl o 1))
 
-    pub leaves-one : leavesOne (heldIn l ++ (d ∷ [])) d ≡ true
-    unfolding holidayChecks
-    leaves-one = not-false (leavesOne (heldIn l ++ (d ∷ [])) d) (clear _ refl o 2)
+    pub leaves_one_lem : leaves_one (held_in l ++ (d ∷ [])) d ≡ true
+    unfolding holiday_checks
+    leaves_one_lem = not-false (leaves_one (held_in l ++ (d ∷ [])) d) (clear _ refl o 2)
 
-    days-ranged : inRange l ≡ true → holidaysInRange (storedDates (heldIn l ++ (d ∷ []))) ≡ true
-    unfolding heldIn
-    days-ranged r = naming-ranged l.holidays d (ranged-parts l r).held has-room is-real-day leaves-one
+    days_ranged : in_range l ≡ true → holidays_in_range (stored_dates (held_in l ++ (d ∷ []))) ≡ true
+    unfolding held_in
+    days_ranged r = naming_ranged l.holidays d (ranged_parts l r).held has_room is_real_day leaves_one_lem
 
-    pub holding-ranged : inRange l ≡ true → inRange (holding l d) ≡ true
-    unfolding holding withHolidays
-    holding-ranged r =
-        let p = ranged-parts l r in
-        ranged-whole (holding l d) (record { dated = p.dated; held = days-ranged r; accounts = p.accounts })
+    pub holding_ranged : in_range l ≡ true → in_range (holding l d) ≡ true
+    unfolding holding with_holidays
+    holding_ranged r =
+        let p = ranged_parts l r in
+        ranged_whole (holding l d) (record { dated = p.dated; held = days_ranged r; accounts = p.accounts })

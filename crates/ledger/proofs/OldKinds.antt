@@ -8,25 +8,25 @@ use lib.Dec.{leb}
 use lib.ListN.{length}
 use borrow.Author.Tests.{eq-eqb, le-leb}
 use Rattle.ledger.specs.Checks.{verdict}
-use Rattle.ledger.specs.Kinds.{kindOf}
-use Rattle.ledger.specs.Entries.{entryOf}
-use Rattle.ledger.specs.Forms.{entryChecks, entryNumber, formNumber}
-use Rattle.ledger.specs.OldAndNew.{isOldKind}
-use Rattle.ledger.specs.Posting.{admission, postEntry, posted}
+use Rattle.ledger.specs.Kinds.{kind_of}
+use Rattle.ledger.specs.Entries.{entry_of}
+use Rattle.ledger.specs.Forms.{entry_checks, entry_number, form_number}
+use Rattle.ledger.specs.OldAndNew.{is_old_kind}
+use Rattle.ledger.specs.Posting.{admission, post_entry, posted}
 use Rattle.ledger.specs.Answers.{refused}
 use Rattle.ledger.specs.Structs.{Kind, Ledger}
 use Rattle.ledger.proofs.KindCases.{done, each, ◌then◌}
 
-within : (kind : ℕ) → 1 ≤ kind → kind ≤ 9 → isOldKind kind ≡ true
-unfolding isOldKind
+within : (kind : ℕ) → 1 ≤ kind → kind ≤ 9 → is_old_kind kind ≡ true
+unfolding is_old_kind
 within kind h k = rw (le-leb 1 kind h, le-leb kind 9 k)
 
-module _ (kind : ℕ) (h : isOldKind kind ≡ false) where
+module _ (kind : ℕ) (h : is_old_kind kind ≡ false) where
   isnt : (n : ℕ) → 1 ≤ n → n ≤ 9 → kind ≡ n → ⊥
   isnt n p q is = absurd (true≢false (sym (within kind (omega arith) (omega arith)) ∙ h))
 
-  pub later : leb (kindOf kind).since 1 ≡ false
-  unfolding kindOf
+  pub later : leb (kind_of kind).since 1 ≡ false
+  unfolding kind_of
   later =
       each (λ (k : Kind). leb k.since 1 ≡ false) kind _
       ((λ is. absurd (isnt 1 (omega arith) (omega arith) is))
@@ -44,11 +44,11 @@ module _ (kind : ℕ) (h : isOldKind kind ≡ false) where
       refl
 
 -- the number of an entry, whatever is asked after it
-module _ (b : List ℕ) (whole : length b ≡ 32) (h : isOldKind (entryOf b).kind ≡ false) where
-  pub old-form : formNumber false b ≡ 2
-  unfolding formNumber entryNumber entryChecks verdict
-  old-form = rw (eq-eqb (length b) 32 whole, later (entryOf b).kind h)
+module _ (b : List ℕ) (whole : length b ≡ 32) (h : is_old_kind (entry_of b).kind ≡ false) where
+  pub old_form : form_number false b ≡ 2
+  unfolding form_number entry_number entry_checks verdict
+  old_form = rw (eq-eqb (length b) 32 whole, later (entry_of b).kind h)
 
-  pub old-posted : (l : Ledger) → l.is_new ≡ false → posted l b ≡ refused l 2
-  unfolding posted postEntry admission entryChecks verdict
-  old-posted l o = rw (eq-eqb (length b) 32 whole, o, later (entryOf b).kind h)
+  pub old_posted : (l : Ledger) → l.is_new ≡ false → posted l b ≡ refused l 2
+  unfolding posted post_entry admission entry_checks verdict
+  old_posted l o = rw (eq-eqb (length b) 32 whole, o, later (entry_of b).kind h)

@@ -8,119 +8,119 @@ use lib.Dec.{eqb}
 use lib.IntN.{ℤ, ◌+ℤ◌}
 use lib.ListN.{length-map}
 use borrow.Author.Tests.{eq-eqb, ne_eqb, eqb-true, eqb-false, not-false}
-use Rattle.tariff.specs.Dates.{real, lastOfMonth, lastDate, dayAfter}
-use Rattle.tariff.specs.Holidays.{holidaysInRange}
-use Rattle.tariff.specs.Terms.{termsInRange}
+use Rattle.tariff.specs.Dates.{real, last_of_month, last_date, day_after}
+use Rattle.tariff.specs.Holidays.{holidays_in_range}
+use Rattle.tariff.specs.Terms.{terms_in_range}
 use Rattle.ledger.specs.Structs.{Account, Entry, Holidays, Ledger, Report, Terms}
-use Rattle.tariff.proofs.Bools.{and-left, and-right, either, or-right}
-use Rattle.tariff.proofs.BusinessDays.{kept-ranged}
-use Rattle.tariff.proofs.NextDays.{right-days}
+use Rattle.tariff.proofs.Bools.{and_left, and_right, either, or_right}
+use Rattle.tariff.proofs.BusinessDays.{kept_ranged}
+use Rattle.tariff.proofs.NextDays.{right_days}
 use Rattle.ledger.specs.Checks.{verdict}
-use Rattle.ledger.specs.Entries.{entryOf}
-use Rattle.ledger.specs.State.{accountAt}
-use Rattle.ledger.specs.Ranges.{accountInRange, everyAccount, inRange}
-use Rattle.ledger.specs.Closing.{closingOf, afterClosing, reportOf, staysInRange}
-use Rattle.ledger.specs.Closings.{closingChecks, closed, holidaysAfter}
+use Rattle.ledger.specs.Entries.{entry_of}
+use Rattle.ledger.specs.State.{account_at}
+use Rattle.ledger.specs.Ranges.{account_in_range, every_account, in_range}
+use Rattle.ledger.specs.Closing.{closing_of, after_closing, report_of, stays_in_range}
+use Rattle.ledger.specs.Closings.{closing_checks, closed, holidays_after}
 use Rattle.ledger.specs.Kinds.{lookup}
-use Rattle.ledger.specs.Days.{wrongDay}
+use Rattle.ledger.specs.Days.{wrong_day}
 use Rattle.ledger.specs.Posting.{admission}
-use Rattle.ledger.specs.Panel.{openBank, bankOf}
+use Rattle.ledger.specs.Panel.{open_bank, bank_of}
 use Rattle.ledger.proofs.Verdicts.{clear}
-use Rattle.ledger.proofs.Bounded.{begun-ranged, ranged-parts, ranged-whole}
-use Rattle.ledger.proofs.Admitted.{is-begun, is-day, is-real}
-use Rattle.ledger.proofs.ClosedAccounts.{openOwed, openDays, reportMoves, reportDays, accounted, account-closed, account-reported}
-use Rattle.ledger.proofs.OneStep.{Sound, Taken, Step, gainAt, reportAt}
+use Rattle.ledger.proofs.Bounded.{begun_ranged, ranged_parts, ranged_whole}
+use Rattle.ledger.proofs.Admitted.{is_begun, is_day, is_real_lem}
+use Rattle.ledger.proofs.ClosedAccounts.{open_owed, open_days, report_moves, report_days, accounted, account_closed, account_reported}
+use Rattle.ledger.proofs.OneStep.{Sound, Taken, Step, gain_at, report_at}
 
 both : (a b : Bool) → a ≡ true → b ≡ true → a && b ≡ true
 both a b p q = rw (p, q)
 
-or-else : (a b : Bool) → b ≡ true → a || b ≡ true
-or-else true b q = refl
-or-else false b q = q
+or_else : (a b : Bool) → b ≡ true → a || b ≡ true
+or_else true b q = refl
+or_else false b q = q
 
 -- accounts that all stay in range are in range when closed
-closed-ranged : (new : Bool) (t : Terms) (e : Entry) (xs : List Account) → everyAccount (staysInRange new t e) xs ≡ true → everyAccount accountInRange (map (afterClosing new t e) xs) ≡ true
-unfolding everyAccount staysInRange afterClosing
-closed-ranged new t e [] h = refl
-closed-ranged new t e (x ∷ xs) h =
-    rw (and-right (accountInRange (closingOf new t e x).day) (accountInRange (closingOf new t e x).account) (and-left (staysInRange new t e x) (everyAccount (staysInRange new t e) xs) h))
-    (closed-ranged new t e xs (and-right (staysInRange new t e x) (everyAccount (staysInRange new t e) xs) h))
+closed_ranged : (new : Bool) (t : Terms) (e : Entry) (xs : List Account) → every_account (stays_in_range new t e) xs ≡ true → every_account account_in_range (map (after_closing new t e) xs) ≡ true
+unfolding every_account stays_in_range after_closing
+closed_ranged new t e [] h = refl
+closed_ranged new t e (x ∷ xs) h =
+    rw (and_right (account_in_range (closing_of new t e x).day) (account_in_range (closing_of new t e x).account) (and_left (stays_in_range new t e x) (every_account (stays_in_range new t e) xs) h))
+    (closed_ranged new t e xs (and_right (stays_in_range new t e x) (every_account (stays_in_range new t e) xs) h))
 
 module _ (l : Ledger) (e : Entry) (s : Sound l) (h : admission l e ≡ 0) (c : 8 ≤ e.kind) (d : e.kind ≤ 9) where
   -- no closing is of another kind
   isnt : (m : ℕ) → m < 8 → eqb e.kind m ≡ false
   isnt m q = ne_eqb e.kind m (λ z. omega arith)
 
-  is-closing : eqb e.kind 8 || eqb e.kind 9 ≡ true
-  is-closing = go (eqb e.kind 8) refl
+  is_closing : eqb e.kind 8 || eqb e.kind 9 ≡ true
+  is_closing = go (eqb e.kind 8) refl
     where
       go : (t : Bool) → eqb e.kind 8 ≡ t → t || eqb e.kind 9 ≡ true
       go true z = refl
       go false z = eq-eqb e.kind 9 (omega (arith, eqb-false e.kind 8 z))
 
   begun : l.begun ≡ true
-  begun = is-begun l e h (λ z. omega arith)
+  begun = is_begun l e h (λ z. omega arith)
 
-  report-is : (i : ℕ) → reportAt e.kind (closed l e).answer i ≡ (closingOf l.is_new l.terms e (accountAt l i)).report
-  unfolding reportOf
-  report-is i = rw is-closing (account-reported l e i)
+  report_is : (i : ℕ) → report_at e.kind (closed l e).answer i ≡ (closing_of l.is_new l.terms e (account_at l i)).report
+  unfolding report_of
+  report_is i = rw is_closing (account_reported l e i)
 
-  after-is : (i : ℕ) → accountAt (closed l e).ledger i ≡ (closingOf l.is_new l.terms e (accountAt l i)).account
-  unfolding afterClosing
-  after-is i = account-closed l e i
+  after_is : (i : ℕ) → account_at (closed l e).ledger i ≡ (closing_of l.is_new l.terms e (account_at l i)).account
+  unfolding after_closing
+  after_is i = account_closed l e i
 
-  gain-is : (i : ℕ) → gainAt e.kind l e (closed l e).answer i ≡ reportMoves (closingOf l.is_new l.terms e (accountAt l i)).report
-  unfolding reportOf
-  gain-is i = rw (isnt 2 (omega arith), isnt 3 (omega arith), isnt 4 (omega arith), isnt 5 (omega arith), is-closing) (ap reportMoves (account-reported l e i))
+  gain_is : (i : ℕ) → gain_at e.kind l e (closed l e).answer i ≡ report_moves (closing_of l.is_new l.terms e (account_at l i)).report
+  unfolding report_of
+  gain_is i = rw (isnt 2 (omega arith), isnt 3 (omega arith), isnt 4 (omega arith), isnt 5 (omega arith), is_closing) (ap report_moves (account_reported l e i))
 
-  keeps-rate : (closed l e).ledger.terms.retainage ≡ l.terms.retainage
+  keeps_rate : (closed l e).ledger.terms.retainage ≡ l.terms.retainage
   unfolding closed
-  keeps-rate = refl
+  keeps_rate = refl
 
   -- a closing that came on its day did not come on the last date of all
-  not-last : lastDate e.date ≡ false
-  unfolding wrongDay lookup
-  not-last = go (eqb e.kind 8) refl
+  not_last : last_date e.date ≡ false
+  unfolding wrong_day lookup
+  not_last = go (eqb e.kind 8) refl
     where
-      go : (t : Bool) → eqb e.kind 8 ≡ t → lastDate e.date ≡ false
-      go true z = or-right (lastOfMonth e.date) (lastDate e.date) (rw (eqb-true e.kind 8 z) at (is-day l e h))
-      go false z = or-right (not (lastOfMonth e.date)) (lastDate e.date) (rw (nine z) at (is-day l e h))
+      go : (t : Bool) → eqb e.kind 8 ≡ t → last_date e.date ≡ false
+      go true z = or_right (last_of_month e.date) (last_date e.date) (rw (eqb-true e.kind 8 z) at (is_day l e h))
+      go false z = or_right (not (last_of_month e.date)) (last_date e.date) (rw (nine z) at (is_day l e h))
         where
           nine : eqb e.kind 8 ≡ false → e.kind ≡ 9
           nine z = omega (arith, eqb-false e.kind 8 z)
 
-  next-real : real (dayAfter e.date) ≡ true
-  next-real = (right-days e.date (is-real l e h) not-last).isReal
+  next_real : real (day_after e.date) ≡ true
+  next_real = (right_days e.date (is_real_lem l e h) not_last).is_real
 
-  held-ranged : holidaysInRange (holidaysAfter e l.holidays) ≡ true
-  unfolding holidaysAfter
-  held-ranged =
-      let held = (ranged-parts l s.ranged).held in
-      either (λ (h : Holidays). holidaysInRange h ≡ true) (eqb e.kind 9) _ l.holidays (λ _. kept-ranged l.holidays (dayAfter e.date) held) (λ _. held)
+  held_ranged : holidays_in_range (holidays_after e l.holidays) ≡ true
+  unfolding holidays_after
+  held_ranged =
+      let held = (ranged_parts l s.ranged).held in
+      either (λ (h : Holidays). holidays_in_range h ≡ true) (eqb e.kind 9) _ l.holidays (λ _. kept_ranged l.holidays (day_after e.date) held) (λ _. held)
 
-  next-ranged : verdict (closingChecks l e) ≡ 0 → inRange (closed l e).ledger ≡ true
-  unfolding closed closingChecks
-  next-ranged o =
-      ranged-whole (closed l e).ledger
+  next_ranged : verdict (closing_checks l e) ≡ 0 → in_range (closed l e).ledger ≡ true
+  unfolding closed closing_checks
+  next_ranged o =
+      ranged_whole (closed l e).ledger
       (record {
-        dated = or-else (not l.begun) (real (dayAfter e.date) && termsInRange l.terms) (both (real (dayAfter e.date)) (termsInRange l.terms) next-real (begun-ranged l s.ranged begun).1);
-        held = held-ranged;
-        accounts = closed-ranged l.is_new l.terms e l.accounts (not-false (everyAccount (staysInRange l.is_new l.terms e) l.accounts) (clear _ refl o 1));
+        dated = or_else (not l.begun) (real (day_after e.date) && terms_in_range l.terms) (both (real (day_after e.date)) (terms_in_range l.terms) next_real (begun_ranged l s.ranged begun).1);
+        held = held_ranged;
+        accounts = closed_ranged l.is_new l.terms e l.accounts (not-false (every_account (stays_in_range l.is_new l.terms e) l.accounts) (clear _ refl o 1));
       })
 
-  takes-closing : verdict (closingChecks l e) ≡ 0 → Taken l e (closed l e).answer (closed l e).ledger
-  unfolding bankOf
-  takes-closing o =
+  takes_closing : verdict (closing_checks l e) ≡ 0 → Taken l e (closed l e).answer (closed l e).ledger
+  unfolding bank_of
+  takes_closing o =
       record {
-        sound = record { sized = unfold closed in (length-map l.accounts (afterClosing l.is_new l.terms e) ∙ s.sized); ranged = next-ranged o };
-        banks = λ i. ap openBank (after-is i) ∙ (accounted l.is_new l.terms e (accountAt l i)).bank ∙ ap (λ (z : ℤ). openBank (accountAt l i) +ℤ z) (sym (gain-is i));
-        debts = λ i. ap openOwed (after-is i) ∙ (accounted l.is_new l.terms e (accountAt l i)).owed ∙ ap (λ (r : Report). openOwed (accountAt l i) +ℤ r.bill.0) (sym (report-is i));
-        days = λ i. ap openDays (after-is i) ∙ (accounted l.is_new l.terms e (accountAt l i)).days ∙ ap (λ (r : Report). openDays (accountAt l i) +ℤ reportDays r) (sym (report-is i));
-        retainage = keeps-rate ∙ sym (rw (isnt 1 (omega arith)));
+        sound = record { sized = unfold closed in (length-map l.accounts (after_closing l.is_new l.terms e) ∙ s.sized); ranged = next_ranged o };
+        banks = λ i. ap open_bank (after_is i) ∙ (accounted l.is_new l.terms e (account_at l i)).bank ∙ ap (λ (z : ℤ). open_bank (account_at l i) +ℤ z) (sym (gain_is i));
+        debts = λ i. ap open_owed (after_is i) ∙ (accounted l.is_new l.terms e (account_at l i)).owed ∙ ap (λ (r : Report). open_owed (account_at l i) +ℤ r.bill.0) (sym (report_is i));
+        days = λ i. ap open_days (after_is i) ∙ (accounted l.is_new l.terms e (account_at l i)).days ∙ ap (λ (r : Report). open_days (account_at l i) +ℤ report_days r) (sym (report_is i));
+        retainage = keeps_rate ∙ sym (rw (isnt 1 (omega arith)));
         started = λ _. begun;
         parties = λ z. absurd (omega (arith, z));
       }
 
-module _ (l : Ledger) (b : List ℕ) (s : Sound l) (h : admission l (entryOf b) ≡ 0) (c : 8 ≤ (entryOf b).kind) (d : (entryOf b).kind ≤ 9) where
-  pub step-closed : verdict (closingChecks l (entryOf b)) ≡ 0 → Step l b (closed l (entryOf b))
-  step-closed o = record { kept = λ z. absurd (true≢false (unfold closed in z)); taken = λ _. takes-closing l (entryOf b) s h c d o }
+module _ (l : Ledger) (b : List ℕ) (s : Sound l) (h : admission l (entry_of b) ≡ 0) (c : 8 ≤ (entry_of b).kind) (d : (entry_of b).kind ≤ 9) where
+  pub step_closed : verdict (closing_checks l (entry_of b)) ≡ 0 → Step l b (closed l (entry_of b))
+  step_closed o = record { kept = λ z. absurd (true≢false (unfold closed in z)); taken = λ _. takes_closing l (entry_of b) s h c d o }

@@ -11,38 +11,38 @@ use lib.ListN.{length, replicate}
 use borrow.Author.Tests.{eqb-true, eqb-false, eq-eqb, ne_eqb, lt-leb, not-false}
 use Rattle.tariff.specs.Amounts.{less, more, within}
 use Rattle.tariff.specs.Dates.{real}
-use Rattle.tariff.specs.Limits.{aboveMaximum, belowMinimum}
-use Rattle.tariff.proofs.Bands.{giver-stays, taker-stays}
-use Rattle.tariff.proofs.Bools.{and-left, and-right, parts}
-use Rattle.tariff.proofs.Laws.{same-date}
-use Rattle.tariff.proofs.Ranges.{date-bounds}
+use Rattle.tariff.specs.Limits.{above_maximum, below_minimum}
+use Rattle.tariff.proofs.Bands.{giver_stays, taker_stays}
+use Rattle.tariff.proofs.Bools.{and_left, and_right, parts}
+use Rattle.tariff.proofs.Laws.{same_date_lem}
+use Rattle.tariff.proofs.Ranges.{date_bounds}
 use Rattle.ledger.specs.Answers.{plain, refused, settle}
 use Rattle.ledger.specs.Checks.{verdict}
-use Rattle.ledger.specs.Days.{wrongDay}
-use Rattle.ledger.specs.Entries.{byteAt, entryOf, halfAt, wordAt}
-use Rattle.ledger.specs.Forms.{accountTooHigh, entryChecks, fieldChecks, someUnits, unusedSet, wordsInRange, wrongTransfer}
-use Rattle.ledger.specs.Gas.{afterGiving, afterTaking, giving, givingChecks, taking, takingChecks}
-use Rattle.ledger.specs.Kinds.{kindOf, lookup, version}
+use Rattle.ledger.specs.Days.{wrong_day}
+use Rattle.ledger.specs.Entries.{byte_at, entry_of, half_at, word_at}
+use Rattle.ledger.specs.Forms.{account_too_high, entry_checks, field_checks, some_units, unused_set, words_in_range, wrong_transfer}
+use Rattle.ledger.specs.Gas.{after_giving, after_taking, giving, giving_checks, taking, taking_checks}
+use Rattle.ledger.specs.Kinds.{kind_of, lookup, version}
 use Rattle.ledger.specs.MarkedCases.{word}
-use Rattle.ledger.specs.Posting.{admission, postEntry, postKind, postSeveral, posted, standingChecks}
-use Rattle.ledger.specs.Ranges.{accountInRange, inRange}
-use Rattle.ledger.specs.State.{accountAt, withBank}
+use Rattle.ledger.specs.Posting.{admission, post_entry, post_kind, post_several, posted, standing_checks}
+use Rattle.ledger.specs.Ranges.{account_in_range, in_range}
+use Rattle.ledger.specs.State.{account_at, with_bank}
 use Rattle.ledger.specs.Structs.{Account, Date, Entry, Ledger, Units}
-use Rattle.ledger.specs.Transfer.{giver, postTransfer, receiver, transferChecks}
-use Rattle.ledger.proofs.Admitted.{is-begun, is-ranged, is-right}
-use Rattle.ledger.proofs.Bounded.{account-ranged, begun-ranged, bounded}
-use Rattle.ledger.proofs.RightEntries.{a-fits, b-fits, transfer-fits, transfer-units}
+use Rattle.ledger.specs.Transfer.{giver, post_transfer, receiver, transfer_checks}
+use Rattle.ledger.proofs.Admitted.{is_begun, is_ranged, is_right}
+use Rattle.ledger.proofs.Bounded.{account_ranged, begun_ranged, bounded}
+use Rattle.ledger.proofs.RightEntries.{a_fits, b_fits, transfer_fits, transfer_units}
 use Rattle.ledger.proofs.Verdicts.{clear}
 
 -- ---- what is said
 
 -- the entry: s gives q to j, as both notified
-abbrev pub transferOn : Date → ℕ → ℕ → ℕ → Entry
-transferOn date s j q = record { kind = 4; a = s; b = j; flags = 0; date = date; w1 = q; w2 = q; w3 = 0; w4 = 0; w5 = 0; w6 = 0 }
+abbrev pub transfer_on : Date → ℕ → ℕ → ℕ → Entry
+transfer_on date s j q = record { kind = 4; a = s; b = j; flags = 0; date = date; w1 = q; w2 = q; w3 = 0; w4 = 0; w5 = 0; w6 = 0 }
 
 -- its bytes
-abbrev pub transferBytes : Date → ℕ → ℕ → ℕ → List ℕ
-transferBytes date s j q =
+abbrev pub transfer_bytes : Date → ℕ → ℕ → ℕ → List ℕ
+transfer_bytes date s j q =
     4 ∷ s ∷ j ∷ 0 ∷ date.year % 256 ∷ date.year / 256 % 256 ∷ date.month.0 ∷ date.day ∷ word q ++ word q ++ replicate 16 0
 
 -- what is asked of it
@@ -50,181 +50,181 @@ pub record Transferable (l : Ledger) (s j q : ℕ) : Type 0 where
   pub from : s < 16
   pub to : j < 16
   pub apart : s ≡ j → ⊥
-  pub units : someUnits q ≡ true
-  pub ranged : inRange l ≡ true
+  pub units : some_units q ≡ true
+  pub ranged : in_range l ≡ true
   pub begun : l.begun ≡ true
-  pub gives : (accountAt l s).opened ≡ true
-  pub takes : (accountAt l j).opened ≡ true
-  pub kept : belowMinimum l.date.month (accountAt l s).capacity.bcq (less (accountAt l s).bank (record { 0 = q })) ≡ false
-  pub fits : aboveMaximum l.date.month (accountAt l j).capacity.bcq (more (accountAt l j).bank (record { 0 = q })) ≡ false
+  pub gives : (account_at l s).opened ≡ true
+  pub takes : (account_at l j).opened ≡ true
+  pub kept : below_minimum l.date.month (account_at l s).capacity.bcq (less (account_at l s).bank (record { 0 = q })) ≡ false
+  pub fits : above_maximum l.date.month (account_at l j).capacity.bcq (more (account_at l j).bank (record { 0 = q })) ≡ false
 
 -- ---- the bytes, read back
 
-half-back : (n : ℕ) → n < 65536 → n % 256 + 256 * (n / 256 % 256) ≡ n
-half-back n h = omega arith
+half_back : (n : ℕ) → n < 65536 → n % 256 + 256 * (n / 256 % 256) ≡ n
+half_back n h = omega arith
 
-bytes-back : (n : ℕ) → n < 4294967296 → n % 256 + 256 * (n / 256 % 256 + 256 * (n / 256 / 256 % 256 + 256 * (n / 256 / 256 / 256 % 256))) ≡ n
-bytes-back n h =
+bytes_back : (n : ℕ) → n < 4294967296 → n % 256 + 256 * (n / 256 % 256 + 256 * (n / 256 / 256 % 256 + 256 * (n / 256 / 256 / 256 % 256))) ≡ n
+bytes_back n h =
     let top : n / 256 / 256 / 256 < 256 = omega arith in
-    let one : n / 256 / 256 % 256 + 256 * (n / 256 / 256 / 256 % 256) ≡ n / 256 / 256 = half-back (n / 256 / 256) (omega arith) in
+    let one : n / 256 / 256 % 256 + 256 * (n / 256 / 256 / 256 % 256) ≡ n / 256 / 256 = half_back (n / 256 / 256) (omega arith) in
     omega arith
 
-word-back : (n : ℕ) → n < 4294967296 → n % 256 + 256 * (n / 256 % 256 + 256 * (n / 65536 % 256 + 256 * (n / 16777216 % 256))) ≡ n
-word-back n h =
+word_back : (n : ℕ) → n < 4294967296 → n % 256 + 256 * (n / 256 % 256 + 256 * (n / 65536 % 256 + 256 * (n / 16777216 % 256))) ≡ n
+word_back n h =
     let two : n / 256 / 256 ≡ n / 65536 = div-div-eq-div-mul n 256 256 in
     let three : n / 65536 / 256 ≡ n / 16777216 = div-div-eq-div-mul n 65536 256 in
-    rw (← three, ← two) (bytes-back n h)
+    rw (← three, ← two) (bytes_back n h)
 
-entry-back : (date : Date) (s j q : ℕ) → real date ≡ true → q < 4294967296 → entryOf (transferBytes date s j q) ≡ transferOn date s j q
-unfolding entryOf byteAt halfAt wordAt
-entry-back date s j q r h =
-    let bounds = date-bounds date r in
+entry_back : (date : Date) (s j q : ℕ) → real date ≡ true → q < 4294967296 → entry_of (transfer_bytes date s j q) ≡ transfer_on date s j q
+unfolding entry_of byte_at half_at word_at
+entry_back date s j q r h =
+    let bounds = date_bounds date r in
     let year : date.year < 65536 = omega arith in
-    rw (half-back date.year year, word-back q h)
+    rw (half_back date.year year, word_back q h)
 
 -- ---- an account in range with another bank in range
 
-with-bank : (a : Account) (bank : Units) → accountInRange a ≡ true → within 1000000000 100000000000 bank ≡ true → accountInRange (withBank a bank) ≡ true
-unfolding accountInRange withBank
-with-bank a bank h w = let was : within 1000000000 100000000000 a.bank ≡ true = search parts depth 9 in rw w (rw was at h)
+with_bank_lem : (a : Account) (bank : Units) → account_in_range a ≡ true → within 1000000000 100000000000 bank ≡ true → account_in_range (with_bank a bank) ≡ true
+unfolding account_in_range with_bank
+with_bank_lem a bank h w = let was : within 1000000000 100000000000 a.bank ≡ true = search parts depth 9 in rw w (rw was at h)
 
-bank-ranged : (a : Account) → accountInRange a ≡ true → within 1000000000 100000000000 a.bank ≡ true
-unfolding accountInRange
-bank-ranged a h = search parts depth 9
+bank_ranged : (a : Account) → account_in_range a ≡ true → within 1000000000 100000000000 a.bank ≡ true
+unfolding account_in_range
+bank_ranged a h = search parts depth 9
 
 module _ (l : Ledger) (s j q : ℕ) where
   abbrev e : Entry
-  e = transferOn l.date s j q
+  e = transfer_on l.date s j q
 
   -- ---- the number
 
-  by-admission : (t : Bool) → (cond t (postKind l e) (refused l (admission l e))).answer.number ≡ cond t (verdict (transferChecks l e)) (admission l e)
-  unfolding postKind postSeveral kindOf lookup postTransfer settle refused plain
-  by-admission true = refl
-  by-admission false = refl
+  by_admission : (t : Bool) → (cond t (post_kind l e) (refused l (admission l e))).answer.number ≡ cond t (verdict (transfer_checks l e)) (admission l e)
+  unfolding post_kind post_several kind_of lookup post_transfer settle refused plain
+  by_admission true = refl
+  by_admission false = refl
 
   abbrev bytes : List ℕ
-  bytes = transferBytes l.date s j q
+  bytes = transfer_bytes l.date s j q
 
-  transfer-number : real l.date ≡ true → q < 4294967296
-      → (posted l bytes).answer.number ≡ cond (eqb (admission l e) 0) (verdict (transferChecks l e)) (admission l e)
-  unfolding posted postEntry
-  transfer-number r h = rw (entry-back l.date s j q r h) (by-admission (eqb (admission l e) 0))
+  transfer_number : real l.date ≡ true → q < 4294967296
+      → (posted l bytes).answer.number ≡ cond (eqb (admission l e) 0) (verdict (transfer_checks l e)) (admission l e)
+  unfolding posted post_entry
+  transfer_number r h = rw (entry_back l.date s j q r h) (by_admission (eqb (admission l e) 0))
 
-  both-clear : (n m : ℕ) (t : Bool) → eqb n 0 ≡ t → cond t m n ≡ 0 → (n ≡ 0) × (m ≡ 0)
-  both-clear n m true z h = (eqb-true n 0 z, h)
-  both-clear n m false z h = absurd (eqb-false n 0 z h)
+  both_clear : (n m : ℕ) (t : Bool) → eqb n 0 ≡ t → cond t m n ≡ 0 → (n ≡ 0) × (m ≡ 0)
+  both_clear n m true z h = (eqb-true n 0 z, h)
+  both_clear n m false z h = absurd (eqb-false n 0 z h)
 
   -- ---- accepted, so transferable
 
-  module _ (h : admission l e ≡ 0) (v : verdict (transferChecks l e) ≡ 0) where
-    opened-both : (accountAt l s).opened && (accountAt l j).opened ≡ true
-    unfolding transferChecks
-    opened-both = not-false ((accountAt l s).opened && (accountAt l j).opened) (clear _ refl v 0)
+  module _ (h : admission l e ≡ 0) (v : verdict (transfer_checks l e) ≡ 0) where
+    opened_both : (account_at l s).opened && (account_at l j).opened ≡ true
+    unfolding transfer_checks
+    opened_both = not-false ((account_at l s).opened && (account_at l j).opened) (clear _ refl v 0)
 
-    numbers-zero : eqb (giver l e).number 0 && eqb (receiver l e).number 0 ≡ true
-    unfolding transferChecks
-    numbers-zero = not-false (eqb (giver l e).number 0 && eqb (receiver l e).number 0) (clear _ refl v 2)
+    numbers_zero : eqb (giver l e).number 0 && eqb (receiver l e).number 0 ≡ true
+    unfolding transfer_checks
+    numbers_zero = not-false (eqb (giver l e).number 0 && eqb (receiver l e).number 0) (clear _ refl v 2)
 
     gave : (giver l e).number ≡ 0
-    gave = eqb-true (giver l e).number 0 (and-left (eqb (giver l e).number 0) (eqb (receiver l e).number 0) numbers-zero)
+    gave = eqb-true (giver l e).number 0 (and_left (eqb (giver l e).number 0) (eqb (receiver l e).number 0) numbers_zero)
 
     took : (receiver l e).number ≡ 0
-    took = eqb-true (receiver l e).number 0 (and-right (eqb (giver l e).number 0) (eqb (receiver l e).number 0) numbers-zero)
+    took = eqb-true (receiver l e).number 0 (and_right (eqb (giver l e).number 0) (eqb (receiver l e).number 0) numbers_zero)
 
     transferable : Transferable l s j q
-    unfolding giver receiver giving taking givingChecks takingChecks afterGiving afterTaking withBank kindOf lookup
+    unfolding giver receiver giving taking giving_checks taking_checks after_giving after_taking with_bank kind_of lookup
     transferable =
-        let right = is-right l e h in
+        let right = is_right l e h in
         record {
-          from = a-fits e right (omega arith);
-          to = b-fits e right (omega arith);
-          apart = (transfer-fits e right refl).1;
-          units = transfer-units e right refl;
-          ranged = is-ranged l e h;
-          begun = is-begun l e h (λ (k : 4 ≡ 1). omega arith);
-          gives = and-left (accountAt l s).opened (accountAt l j).opened opened-both;
-          takes = and-right (accountAt l s).opened (accountAt l j).opened opened-both;
+          from = a_fits e right (omega arith);
+          to = b_fits e right (omega arith);
+          apart = (transfer_fits e right refl).1;
+          units = transfer_units e right refl;
+          ranged = is_ranged l e h;
+          begun = is_begun l e h (λ (k : 4 ≡ 1). omega arith);
+          gives = and_left (account_at l s).opened (account_at l j).opened opened_both;
+          takes = and_right (account_at l s).opened (account_at l j).opened opened_both;
           kept = clear _ refl gave 0;
           fits = clear _ refl took 0;
         }
 
   -- whatever date the bytes have, they are accepted only by a ledger that stands at a real one
-  was-admitted : (t : Bool) → eqb (admission l (entryOf bytes)) 0 ≡ t → (cond t (postKind l (entryOf bytes)) (refused l (admission l (entryOf bytes)))).answer.number ≡ 0
-      → admission l (entryOf bytes) ≡ 0
+  was_admitted : (t : Bool) → eqb (admission l (entry_of bytes)) 0 ≡ t → (cond t (post_kind l (entry_of bytes)) (refused l (admission l (entry_of bytes)))).answer.number ≡ 0
+      → admission l (entry_of bytes) ≡ 0
   unfolding refused plain
-  was-admitted true z h = eqb-true (admission l (entryOf bytes)) 0 z
-  was-admitted false z h = h
+  was_admitted true z h = eqb-true (admission l (entry_of bytes)) 0 z
+  was_admitted false z h = h
 
-  is-transfer : (entryOf bytes).kind ≡ 4
-  unfolding entryOf byteAt
-  is-transfer = refl
+  is_transfer : (entry_of bytes).kind ≡ 4
+  unfolding entry_of byte_at
+  is_transfer = refl
 
-  at-a-date : (posted l bytes).answer.number ≡ 0 → real l.date ≡ true
-  unfolding posted postEntry
-  at-a-date z =
-      let h = was-admitted (eqb (admission l (entryOf bytes)) 0) refl z in
-      (begun-ranged l (is-ranged l (entryOf bytes) h) (is-begun l (entryOf bytes) h (λ (k : (entryOf bytes).kind ≡ 1). omega (arith, is-transfer)))).0
+  at_a_date : (posted l bytes).answer.number ≡ 0 → real l.date ≡ true
+  unfolding posted post_entry
+  at_a_date z =
+      let h = was_admitted (eqb (admission l (entry_of bytes)) 0) refl z in
+      (begun_ranged l (is_ranged l (entry_of bytes) h) (is_begun l (entry_of bytes) h (λ (k : (entry_of bytes).kind ≡ 1). omega (arith, is_transfer)))).0
 
-  pub accepted-only-if : q < 4294967296 → (posted l bytes).answer.number ≡ 0 → Transferable l s j q
-  accepted-only-if w z =
-      let zeros = both-clear (admission l e) (verdict (transferChecks l e)) (eqb (admission l e) 0) refl (sym (transfer-number (at-a-date z) w) ∙ z) in
+  pub accepted_only_if : q < 4294967296 → (posted l bytes).answer.number ≡ 0 → Transferable l s j q
+  accepted_only_if w z =
+      let zeros = both_clear (admission l e) (verdict (transfer_checks l e)) (eqb (admission l e) 0) refl (sym (transfer_number (at_a_date z) w) ∙ z) in
       transferable zeros.0 zeros.1
 
   -- ---- transferable, so accepted
 
   module _ (size : length l.accounts ≡ 16) (t : Transferable l s j q) where
-    any-version : (new : Bool) → leb 1 (version new) ≡ true
-    any-version true = refl
-    any-version false = refl
+    any_version : (new : Bool) → leb 1 (version new) ≡ true
+    any_version true = refl
+    any_version false = refl
 
-    no-fault : (b₂ b₃ b₄ b₅ b₆ b₇ b₂₀ b₂₁ b₂₂ b₂₃ : Bool) → b₂ ≡ false → b₃ ≡ false → b₄ ≡ false → b₅ ≡ false → b₆ ≡ false → b₇ ≡ false
+    no_fault : (b₂ b₃ b₄ b₅ b₆ b₇ b₂₀ b₂₁ b₂₂ b₂₃ : Bool) → b₂ ≡ false → b₃ ≡ false → b₄ ≡ false → b₅ ≡ false → b₆ ≡ false → b₇ ≡ false
         → b₂₀ ≡ false → b₂₁ ≡ false → b₂₂ ≡ false → b₂₃ ≡ false
         → verdict ((b₂, 2) ∷ (b₃, 3) ∷ (b₄, 4) ∷ (b₅, 5) ∷ (b₆, 6) ∷ (b₇, 7) ∷ (b₂₀, 20) ∷ (b₂₁, 21) ∷ (b₂₂, 22) ∷ (b₂₃, 23) ∷ []) ≡ 0
     unfolding verdict
-    no-fault b₂ b₃ b₄ b₅ b₆ b₇ b₂₀ b₂₁ b₂₂ b₂₃ f₂ f₃ f₄ f₅ f₆ f₇ f₂₀ f₂₁ f₂₂ f₂₃ = rw (f₂, f₃, f₄, f₅, f₆, f₇, f₂₀, f₂₁, f₂₂, f₂₃)
+    no_fault b₂ b₃ b₄ b₅ b₆ b₇ b₂₀ b₂₁ b₂₂ b₂₃ f₂ f₃ f₄ f₅ f₆ f₇ f₂₀ f₂₁ f₂₂ f₂₃ = rw (f₂, f₃, f₄, f₅, f₆, f₇, f₂₀, f₂₁, f₂₂, f₂₃)
 
     admitted : admission l e ≡ 0
-    unfolding admission entryChecks fieldChecks standingChecks kindOf lookup accountTooHigh unusedSet wordsInRange wrongTransfer wrongDay
+    unfolding admission entry_checks field_checks standing_checks kind_of lookup account_too_high unused_set words_in_range wrong_transfer wrong_day
     admitted =
-        no-fault _ _ _ _ _ _ _ _ _ _
-        (rw (any-version l.is_new))
-        (rw (begun-ranged l t.ranged t.begun).0)
+        no_fault _ _ _ _ _ _ _ _ _ _
+        (rw (any_version l.is_new))
+        (rw (begun_ranged l t.ranged t.begun).0)
         (rw (lt-leb 16 s t.from, lt-leb 16 j t.to))
         refl
         (rw t.units)
         (rw (ne_eqb s j t.apart, eq-eqb q q refl))
         (rw t.ranged)
         (rw t.begun)
-        (rw (t.begun, same-date l.date))
+        (rw (t.begun, same_date_lem l.date))
         refl
 
-    gives-within : accountInRange (afterGiving (accountAt l s) (record { 0 = q })) ≡ true
-    unfolding afterGiving
-    gives-within =
-        let range = account-ranged l s size t.from t.ranged in
-        with-bank (accountAt l s) _ range
-        (giver-stays 1000000000 100000000000 l.date.month (accountAt l s).capacity.bcq (accountAt l s).bank (record { 0 = q }) (bank-ranged _ range) t.kept)
+    gives_within : account_in_range (after_giving (account_at l s) (record { 0 = q })) ≡ true
+    unfolding after_giving
+    gives_within =
+        let range = account_ranged l s size t.from t.ranged in
+        with_bank_lem (account_at l s) _ range
+        (giver_stays 1000000000 100000000000 l.date.month (account_at l s).capacity.bcq (account_at l s).bank (record { 0 = q }) (bank_ranged _ range) t.kept)
 
-    takes-within : accountInRange (afterTaking (accountAt l j) (record { 0 = q })) ≡ true
-    unfolding afterTaking
-    takes-within =
-        let range = account-ranged l j size t.to t.ranged in
-        with-bank (accountAt l j) _ range
-        (taker-stays 1000000000 100000000000 l.date.month (accountAt l j).capacity.bcq (accountAt l j).bank (record { 0 = q })
-        (bounded (accountAt l j) range).bcq (omega arith) (bank-ranged _ range) t.fits)
+    takes_within : account_in_range (after_taking (account_at l j) (record { 0 = q })) ≡ true
+    unfolding after_taking
+    takes_within =
+        let range = account_ranged l j size t.to t.ranged in
+        with_bank_lem (account_at l j) _ range
+        (taker_stays 1000000000 100000000000 l.date.month (account_at l j).capacity.bcq (account_at l j).bank (record { 0 = q })
+        (bounded (account_at l j) range).bcq (omega arith) (bank_ranged _ range) t.fits)
 
-    gave-well : (giver l e).number ≡ 0
-    unfolding giver giving givingChecks verdict
-    gave-well = rw gives-within (unfold afterGiving withBank in rw t.kept)
+    gave_well : (giver l e).number ≡ 0
+    unfolding giver giving giving_checks verdict
+    gave_well = rw gives_within (unfold after_giving with_bank in rw t.kept)
 
-    took-well : (receiver l e).number ≡ 0
-    unfolding receiver taking takingChecks verdict
-    took-well = rw takes-within (unfold afterTaking withBank in rw t.fits)
+    took_well : (receiver l e).number ≡ 0
+    unfolding receiver taking taking_checks verdict
+    took_well = rw takes_within (unfold after_taking with_bank in rw t.fits)
 
-    moved : verdict (transferChecks l e) ≡ 0
-    unfolding transferChecks verdict
-    moved = rw (t.gives, t.takes, gave-well, took-well)
+    moved : verdict (transfer_checks l e) ≡ 0
+    unfolding transfer_checks verdict
+    moved = rw (t.gives, t.takes, gave_well, took_well)
 
-  pub accepted-if : length l.accounts ≡ 16 → q < 4294967296 → Transferable l s j q → (posted l bytes).answer.number ≡ 0
-  accepted-if size w t = transfer-number (begun-ranged l t.ranged t.begun).0 w ∙ rw (admitted size t, moved size t)
+  pub accepted_if : length l.accounts ≡ 16 → q < 4294967296 → Transferable l s j q → (posted l bytes).answer.number ≡ 0
+  accepted_if size w t = transfer_number (begun_ranged l t.ranged t.begun).0 w ∙ rw (admitted size t, moved size t)

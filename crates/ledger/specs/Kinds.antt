@@ -24,11 +24,11 @@ MEASURE = 6
 abbrev pub USAGE : ℕ
 USAGE = 7
 
-abbrev pub CLOSE-DAY : ℕ
-CLOSE-DAY = 8
+abbrev pub CLOSE_DAY : ℕ
+CLOSE_DAY = 8
 
-abbrev pub CLOSE-MONTH : ℕ
-CLOSE-MONTH = 9
+abbrev pub CLOSE_MONTH : ℕ
+CLOSE_MONTH = 9
 
 abbrev pub CONFISCATED : ℕ
 CONFISCATED = 10
@@ -55,8 +55,8 @@ version new = cond new 2 1
 
 -- R12: the accounts that a kind names (none: it is the ledger's matter; one: A's; two: A's and B's), its largest flags, how many of its words
 -- it uses, from w1 on, and which version of the rules brought it.
-unfoldable pub kindOf : ℕ → Kind
-kindOf kind =
+unfoldable pub kind_of : ℕ → Kind
+kind_of kind =
     lookup kind
     ((TERMS, row 0 0 6 1)
     ∷ (ENROL, row 1 3 2 1)
@@ -65,8 +65,8 @@ kindOf kind =
     ∷ (TRADE, row 1 1 1 1)
     ∷ (MEASURE, row 1 0 1 1)
     ∷ (USAGE, row 1 0 1 1)
-    ∷ (CLOSE-DAY, row 0 0 0 1)
-    ∷ (CLOSE-MONTH, row 0 0 4 1)
+    ∷ (CLOSE_DAY, row 0 0 0 1)
+    ∷ (CLOSE_MONTH, row 0 0 4 1)
     ∷ (CONFISCATED, row 1 0 1 2)
     ∷ (HOLIDAY, row 0 0 3 2)
     ∷ [])

@@ -19,5 +19,5 @@ history l [] = []
 history l (b ∷ bs) = record { bytes = b; answer = (posted l b).answer } ∷ history (posted l b).ledger bs
 
 -- R61: accepted means number 0.
-abbrev pub isAccepted : Line → Bool
-isAccepted x = eqb x.answer.number 0
+abbrev pub is_accepted : Line → Bool
+is_accepted x = eqb x.answer.number 0

@@ -1,14 +1,14 @@
 // One account at CLOSE DAY and CLOSE MONTH.
 ghost use Rattle.std.specs.Prelude.{◌≡◌, true, cond, ◌+◌, ◌≤◌, eqb};
-ghost use Rattle.tariff.specs.Amounts.{size, sizeMills};
+ghost use Rattle.tariff.specs.Amounts.{size, size_mills};
 ghost use Rattle.tariff.specs.Dates.{real};
-ghost use Rattle.tariff.specs.Terms.{termsInRange};
-ghost use Rattle.tariff.specs.Bill.{pricesInRange};
-ghost use Rattle.ledger.specs.Kinds.{CLOSE-MONTH};
-ghost use Rattle.ledger.specs.Entries.{pricesOf};
-ghost use Rattle.ledger.specs.Ranges.{accountInRange};
-ghost use Rattle.ledger.specs.Closing.{limitOf, violationsOf, cashAt, withCash, excusedStill, dayEnd, monthEnd, dayClosing, monthClosing, leftAlone, closingOf, ready};
-ghost use Rattle.tariff.specs.Bounds.{mostBank, mostBcq, mostDays, mostOwed};
+ghost use Rattle.tariff.specs.Terms.{terms_in_range};
+ghost use Rattle.tariff.specs.Bill.{prices_in_range};
+ghost use Rattle.ledger.specs.Kinds.{CLOSE_MONTH};
+ghost use Rattle.ledger.specs.Entries.{prices_of};
+ghost use Rattle.ledger.specs.Ranges.{account_in_range};
+ghost use Rattle.ledger.specs.Closing.{limit_of, violations_of, cash_at, with_cash, excused_still, day_end, month_end, day_closing, month_closing, left_alone, closing_of, ready};
+ghost use Rattle.tariff.specs.Bounds.{most_bank, most_bcq, most_days, most_owed};
 
 use crate::answers::{Report, quiet};
 use crate::entries::Entry;
@@ -34,8 +34,8 @@ pub struct Closed {
 
 // The limit on a winter month's withdrawals.
 fn limit(d: Date, a: Account) -> Quantity
-    requires { a.capacity.bcq.0 ≤ mostBcq }
-    ensures value { result ≡ limitOf d a }
+    requires { a.capacity.bcq.0 ≤ most_bcq }
+    ensures value { result ≡ limit_of d a }
     ensures bounded { result.0 ≤ 3060000000 }
 {
     let month = d.month;
@@ -45,8 +45,8 @@ fn limit(d: Date, a: Account) -> Quantity
 }
 
 fn violations(d: Date, limit: Quantity, a: Account) -> u64
-    requires { (real d ≡ true) × (accountInRange a ≡ true) × (limit ≡ limitOf d a) × (limit.0 ≤ 3060000000) }
-    ensures { result ≡ violationsOf d a }
+    requires { (real d ≡ true) × (account_in_range a ≡ true) × (limit ≡ limit_of d a) × (limit.0 ≤ 3060000000) }
+    ensures { result ≡ violations_of d a }
 {
     let month = d.month;
     let bcq = a.capacity.bcq;
@@ -63,8 +63,8 @@ fn violations(d: Date, limit: Quantity, a: Account) -> u64
 }
 
 fn cash_at(d: Date, a: Account) -> Units
-    requires { accountInRange a ≡ true }
-    ensures value { result ≡ cashAt d a }
+    requires { account_in_range a ≡ true }
+    ensures value { result ≡ cash_at d a }
     ensures bounded { size result ≤ 103060000000 }
 {
     let month = d.month;
@@ -75,8 +75,8 @@ fn cash_at(d: Date, a: Account) -> Units
 }
 
 fn with_cash(m: Totals, cash: Units) -> Totals
-    requires { (m.cash_ins.0 ≤ mostBank) × (m.cash_outs.0 ≤ mostBank) × (size cash ≤ 103060000000) }
-    ensures { result ≡ withCash m cash }
+    requires { (m.cash_ins.0 ≤ most_bank) × (m.cash_outs.0 ≤ most_bank) × (size cash ≤ 103060000000) }
+    ensures { result ≡ with_cash m cash }
 {
     let paid_in = m.cash_ins.plus(cash.inward());
     let paid_out = m.cash_outs.plus(cash.outward());
@@ -88,8 +88,8 @@ fn with_cash(m: Totals, cash: Units) -> Totals
 
 // Whether the excuse goes on, with the bank after cash.
 fn excused_still(d: Date, a: Account, bank: Units) -> bool
-    requires { a.capacity.bcq.0 ≤ mostBcq }
-    ensures { result ≡ excusedStill d a bank }
+    requires { a.capacity.bcq.0 ≤ most_bcq }
+    ensures { result ≡ excused_still d a bank }
 {
     let month = d.month;
     let bcq = a.capacity.bcq;
@@ -99,7 +99,7 @@ fn excused_still(d: Date, a: Account, bank: Units) -> bool
 
 // One more violation day where anything was broken.
 fn days(so_far: u64, mask: u64) -> u64
-    requires { so_far ≤ mostDays }
+    requires { so_far ≤ most_days }
     ensures { result ≡ so_far + cond (eqb mask 0) 0 1 }
 {
     if mask == 0 {
@@ -109,8 +109,8 @@ fn days(so_far: u64, mask: u64) -> u64
 }
 
 fn day_end(d: Date, mask: u64, cash: Units, a: Account) -> Account
-    requires { (accountInRange a ≡ true) × (size cash ≤ 103060000000) }
-    ensures { result ≡ dayEnd d mask cash a }
+    requires { (account_in_range a ≡ true) × (size cash ≤ 103060000000) }
+    ensures { result ≡ day_end d mask cash a }
 {
     let mut month = a.month;
     let totals = month.totals;
@@ -130,8 +130,8 @@ fn day_end(d: Date, mask: u64, cash: Units, a: Account) -> Account
 }
 
 fn close_day(d: Date, a: Account) -> Closed
-    requires { (real d ≡ true) × (accountInRange a ≡ true) }
-    ensures { result ≡ dayClosing d a }
+    requires { (real d ≡ true) × (account_in_range a ≡ true) }
+    ensures { result ≡ day_closing d a }
 {
     let limit = limit(d, a);
     let mask = violations(d, limit, a);
@@ -161,9 +161,9 @@ fn month_end(
     a: Account,
 ) -> Account
     requires bank_fits { (size a.bank ≤ 300000000000) × (forfeit.0 ≤ 300000000000) }
-    requires owed_fits { (sizeMills a.owed ≤ mostOwed) × (sizeMills bill ≤ 2000000000000000) }
-    requires limit_fits { (limit.0 ≤ 3060000000) × (size a.month.totals.net ≤ mostBank) }
-    ensures { result ≡ monthEnd d limit step capacity forfeit bill a }
+    requires owed_fits { (size_mills a.owed ≤ most_owed) × (size_mills bill ≤ 2000000000000000) }
+    requires limit_fits { (limit.0 ≤ 3060000000) × (size a.month.totals.net ≤ most_bank) }
+    ensures { result ≡ month_end d limit step capacity forfeit bill a }
 {
     let month = d.month;
     let net = a.month.totals.net;
@@ -184,9 +184,9 @@ fn month_end(
 }
 
 fn close_month(is_new: bool, d: Date, t: Terms, p: Prices, a: Account) -> Closed
-    requires closing { (real d ≡ true) × (accountInRange a ≡ true) × (a.opened ≡ true) }
-    requires ranged { (termsInRange t ≡ true) × (pricesInRange p ≡ true) }
-    ensures { result ≡ monthClosing is_new d t p a }
+    requires closing { (real d ≡ true) × (account_in_range a ≡ true) × (a.opened ≡ true) }
+    requires ranged { (terms_in_range t ≡ true) × (prices_in_range p ≡ true) }
+    ensures { result ≡ month_closing is_new d t p a }
 {
     let month = d.month;
     let limit = limit(d, a);
@@ -218,7 +218,7 @@ fn close_month(is_new: bool, d: Date, t: Terms, p: Prices, a: Account) -> Closed
 
 // What no closing touches: it stays as it is, and nothing is reported of it.
 fn left_alone(a: Account) -> Closed
-    ensures { result ≡ leftAlone a }
+    ensures { result ≡ left_alone a }
 {
     let report = quiet();
     Closed {
@@ -229,9 +229,9 @@ fn left_alone(a: Account) -> Closed
 }
 
 pub fn close_account(is_new: bool, t: Terms, e: Entry, a: Account) -> Closed
-    requires admitted { (real e.date ≡ true) × (accountInRange a ≡ true) × (termsInRange t ≡ true) × (e.kind ≡ CLOSE-MONTH → pricesInRange (pricesOf e) ≡ true) }
+    requires admitted { (real e.date ≡ true) × (account_in_range a ≡ true) × (terms_in_range t ≡ true) × (e.kind ≡ CLOSE_MONTH → prices_in_range (prices_of e) ≡ true) }
     requires opened { a.opened ≡ true }
-    ensures { result ≡ closingOf is_new t e a }
+    ensures { result ≡ closing_of is_new t e a }
 {
     let date = e.date;
     let kind = e.kind;

@@ -1,13 +1,13 @@
 // CLOSE DAY and CLOSE MONTH, of all accounts together.
 ghost use Rattle.std.specs.Prelude.{◌≡◌, true};
-ghost use Rattle.tariff.specs.Dates.{lastOfMonth, real};
-ghost use Rattle.tariff.specs.Holidays.{onMeasurementDay};
+ghost use Rattle.tariff.specs.Dates.{last_of_month, real};
+ghost use Rattle.tariff.specs.Holidays.{on_measurement_day};
 ghost use Rattle.ledger.specs.Kinds.{TERMS};
-ghost use Rattle.ledger.specs.Ranges.{everyAccount};
+ghost use Rattle.ledger.specs.Ranges.{every_account};
 ghost use Rattle.ledger.specs.Posting.{admission};
-ghost use Rattle.ledger.specs.Closing.{staysInRange, ready};
-ghost use Rattle.ledger.specs.State.{heldIn};
-ghost use Rattle.ledger.specs.Closings.{holidaysAfter, closed, postClosing};
+ghost use Rattle.ledger.specs.Closing.{stays_in_range, ready};
+ghost use Rattle.ledger.specs.State.{held_in};
+ghost use Rattle.ledger.specs.Closings.{holidays_after, closed, post_closing};
 
 use crate::answers::{Answer, Posted, Report, answered, quiet};
 use crate::closing::{close_account, ready};
@@ -29,7 +29,7 @@ struct Closings {
 // The holidays of the next day: a month's end drops those before it.
 fn still_held(e: Entry, held: Holidays) -> Holidays
     requires { real e.date ≡ true }
-    ensures { result ≡ holidaysAfter e held }
+    ensures { result ≡ holidays_after e held }
 {
     let date = e.date;
     if e.kind == kinds::CLOSE_MONTH {
@@ -43,8 +43,8 @@ fn still_held(e: Entry, held: Holidays) -> Holidays
 fn close_all(l: Ledger, e: Entry) -> Closings
     requires { (admission l e ≡ 0) × (e.kind ≡ TERMS → ⊥) }
     ensures closed { (result.ledger ≡ (closed l e).ledger) × (result.reports ≡ (closed l e).answer.reports) }
-    ensures complete { result.complete ≡ everyAccount (ready (lastOfMonth e.date) (onMeasurementDay (heldIn l) e.date)) l.accounts }
-    ensures fits { result.fits ≡ everyAccount (staysInRange l.is_new l.terms e) l.accounts }
+    ensures complete { result.complete ≡ every_account (ready (last_of_month e.date) (on_measurement_day (held_in l) e.date)) l.accounts }
+    ensures fits { result.fits ≡ every_account (stays_in_range l.is_new l.terms e) l.accounts }
 {
     let date = e.date;
     let ends = date.last_of_month();
@@ -88,7 +88,7 @@ fn close_all(l: Ledger, e: Entry) -> Closings
 // What is closed is a copy, which counts only where every account had what the closing asks for (docs/DECISIONS.md, 88).
 pub fn post_closing(l: Ledger, e: Entry) -> Posted
     requires { (admission l e ≡ 0) × (e.kind ≡ TERMS → ⊥) }
-    ensures { result ≡ postClosing l e }
+    ensures { result ≡ post_closing l e }
 {
     let closed = close_all(l, e);
     if !closed.complete {

@@ -1,6 +1,6 @@
 // CONFISCATED.
 ghost use Rattle.std.specs.Prelude.{◌≡◌};
-ghost use Rattle.ledger.specs.Confiscated.{afterConfiscation, confiscation};
+ghost use Rattle.ledger.specs.Confiscated.{after_confiscation, confiscation};
 
 use crate::changes::Change;
 use crate::checks::refuse;
@@ -10,7 +10,7 @@ use crate::state::Account;
 use tariff::amounts::Quantity;
 
 fn with_confiscation(a: Account, e: Entry) -> Account
-    ensures { result ≡ afterConfiscation a e }
+    ensures { result ≡ after_confiscation a e }
 {
     let amount = Quantity(e.w1);
     let mut today = a.today;

@@ -1,12 +1,12 @@
 // DELIVER.
 ghost use Rattle.std.specs.Prelude.{◌≡◌, true, ◌≤◌};
 ghost use Rattle.tariff.specs.Amounts.{size};
-ghost use Rattle.tariff.specs.Terms.{termsInRange};
+ghost use Rattle.tariff.specs.Terms.{terms_in_range};
 ghost use Rattle.ledger.specs.Kinds.{DELIVER};
-ghost use Rattle.ledger.specs.Ranges.{accountInRange};
-ghost use Rattle.ledger.specs.Forms.{fieldNumber};
+ghost use Rattle.ledger.specs.Ranges.{account_in_range};
+ghost use Rattle.ledger.specs.Forms.{field_number};
 ghost use Rattle.ledger.specs.Deliver.{delivered, delivery};
-ghost use Rattle.tariff.specs.Bounds.{mostUnits};
+ghost use Rattle.tariff.specs.Bounds.{most_units};
 
 use crate::changes::Change;
 use crate::checks::refuse;
@@ -19,7 +19,7 @@ use tariff::months::Month;
 use tariff::terms::Terms;
 
 fn delivered(m: Month, a: Account, amount: Units, back_cast: Quantity) -> Account
-    requires { (accountInRange a ≡ true) × (size amount ≤ mostUnits) }
+    requires { (account_in_range a ≡ true) × (size amount ≤ most_units) }
     ensures { result ≡ delivered m a amount back_cast }
 {
     let bank = a.bank;
@@ -50,7 +50,7 @@ fn delivered(m: Month, a: Account, amount: Units, back_cast: Quantity) -> Accoun
 }
 
 pub fn delivery(t: Terms, a: Account, e: Entry) -> Change
-    requires { (fieldNumber e ≡ 0) × (e.kind ≡ DELIVER) × (accountInRange a ≡ true) × (termsInRange t ≡ true) }
+    requires { (field_number e ≡ 0) × (e.kind ≡ DELIVER) × (account_in_range a ≡ true) × (terms_in_range t ≡ true) }
     ensures { result ≡ delivery t a e }
 {
     let date = e.date;

@@ -1,11 +1,11 @@
 // ENROL.
 ghost use Rattle.std.specs.Prelude.{◌≡◌, true, ◌≤◌};
-ghost use Rattle.tariff.specs.Terms.{termsInRange};
+ghost use Rattle.tariff.specs.Terms.{terms_in_range};
 ghost use Rattle.ledger.specs.Kinds.{ENROL};
-ghost use Rattle.ledger.specs.Forms.{fieldNumber};
-ghost use Rattle.ledger.specs.Ranges.{accountInRange};
-ghost use Rattle.ledger.specs.Enrol.{newAccount, enrolment};
-ghost use Rattle.tariff.specs.Bounds.{mostBcq, mostMdq, mostUnits};
+ghost use Rattle.ledger.specs.Forms.{field_number};
+ghost use Rattle.ledger.specs.Ranges.{account_in_range};
+ghost use Rattle.ledger.specs.Enrol.{new_account, enrolment};
+ghost use Rattle.tariff.specs.Bounds.{most_bcq, most_mdq, most_units};
 
 use crate::changes::Change;
 use crate::checks::refuse;
@@ -18,9 +18,9 @@ use tariff::steps::Step;
 use tariff::terms::Terms;
 
 fn new_account(t: Terms, mdq: Dth, opening: Quantity) -> Account
-    requires { (termsInRange t ≡ true) × (mdq.0 ≤ mostMdq) × (opening.0 ≤ mostUnits) }
-    ensures value { result ≡ newAccount t mdq opening }
-    ensures bounded { result.capacity.bcq.0 ≤ mostBcq }
+    requires { (terms_in_range t ≡ true) × (mdq.0 ≤ most_mdq) × (opening.0 ≤ most_units) }
+    ensures value { result ≡ new_account t mdq opening }
+    ensures bounded { result.capacity.bcq.0 ≤ most_bcq }
 {
     let step = Step::first(mdq);
     let capacity = t.capacity(step.k);
@@ -35,7 +35,7 @@ fn new_account(t: Terms, mdq: Dth, opening: Quantity) -> Account
 }
 
 pub fn enrolment(t: Terms, a: Account, e: Entry) -> Change
-    requires { (fieldNumber e ≡ 0) × (e.kind ≡ ENROL) × (accountInRange a ≡ true) × (termsInRange t ≡ true) }
+    requires { (field_number e ≡ 0) × (e.kind ≡ ENROL) × (account_in_range a ≡ true) × (terms_in_range t ≡ true) }
     ensures { result ≡ enrolment t a e }
 {
     let mdq = Dth(e.w1);

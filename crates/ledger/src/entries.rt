@@ -1,6 +1,6 @@
 // An entry of 32 bytes, taken apart, and what its words and flags mean.
 ghost use Rattle.std.specs.Prelude.{◌≡◌, ◌+◌, ◌<◌, ◌≤◌, length};
-ghost use Rattle.ledger.specs.Entries.{byteAt, wordAt, entryOf, termsOf, pricesOf, dayNamed, processOnly, wishes, companySells};
+ghost use Rattle.ledger.specs.Entries.{byte_at, word_at, entry_of, terms_of, prices_of, day_named, process_only, wishes, company_sells};
 
 use tariff::amounts::Dth;
 use tariff::bill::Prices;
@@ -25,7 +25,7 @@ pub struct Entry {
 
 fn byte(bytes: &[u8], at: usize) -> u64
     requires { at < length bytes.now }
-    ensures value { result ≡ byteAt bytes.now at }
+    ensures value { result ≡ byte_at bytes.now at }
     ensures bounded { result < 256 }
 {
     bytes[at] as u64
@@ -33,7 +33,7 @@ fn byte(bytes: &[u8], at: usize) -> u64
 
 fn word(bytes: &[u8], at: usize) -> u64
     requires { at + 4 ≤ length bytes.now }
-    ensures { result ≡ wordAt bytes.now at }
+    ensures { result ≡ word_at bytes.now at }
 {
     byte(bytes, at)
         + 256 * (byte(bytes, at + 1) + 256 * (byte(bytes, at + 2) + 256 * byte(bytes, at + 3)))
@@ -41,7 +41,7 @@ fn word(bytes: &[u8], at: usize) -> u64
 
 fn date(bytes: &[u8]) -> Date
     requires { length bytes.now ≡ 32 }
-    ensures { result ≡ (entryOf bytes.now).date }
+    ensures { result ≡ (entry_of bytes.now).date }
 {
     let year = byte(bytes, 4) + 256 * byte(bytes, 5);
     let month = byte(bytes, 6);
@@ -55,7 +55,7 @@ fn date(bytes: &[u8]) -> Date
 
 pub fn decode(bytes: &[u8]) -> Entry
     requires { length bytes.now ≡ 32 }
-    ensures { result ≡ entryOf bytes.now }
+    ensures { result ≡ entry_of bytes.now }
 {
     let kind = byte(bytes, 0);
     let a = byte(bytes, 1) as usize;
@@ -85,7 +85,7 @@ pub fn decode(bytes: &[u8]) -> Entry
 
 impl Entry {
     pub fn terms(self) -> Terms
-        ensures { result ≡ termsOf self }
+        ensures { result ≡ terms_of self }
     {
         Terms {
             no_notice: Dth(self.w1),
@@ -98,7 +98,7 @@ impl Entry {
     }
 
     pub fn prices(self) -> Prices
-        ensures { result ≡ pricesOf self }
+        ensures { result ≡ prices_of self }
     {
         Prices {
             inventory: self.w1,
@@ -110,7 +110,7 @@ impl Entry {
 
     // The date that a HOLIDAY names.
     pub fn day_named(self) -> Date
-        ensures { result ≡ dayNamed self }
+        ensures { result ≡ day_named self }
     {
         Date {
             year: self.w1,
@@ -120,7 +120,7 @@ impl Entry {
     }
 
     pub fn process_only(self) -> bool
-        ensures { result ≡ processOnly self }
+        ensures { result ≡ process_only self }
     {
         self.flags % 2 == 1
     }
@@ -132,7 +132,7 @@ impl Entry {
     }
 
     pub fn company_sells(self) -> bool
-        ensures { result ≡ companySells self }
+        ensures { result ≡ company_sells self }
     {
         self.flags == 0
     }

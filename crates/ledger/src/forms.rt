@@ -1,6 +1,6 @@
 // What is wrong with an entry by itself: numbers 2 to 7.
 ghost use Rattle.std.specs.Prelude.{◌≡◌};
-ghost use Rattle.ledger.specs.Forms.{accountTooHigh, unusedSet, someUnits, wordsInRange, wrongTransfer, entryNumber};
+ghost use Rattle.ledger.specs.Forms.{account_too_high, unused_set, some_units, words_in_range, wrong_transfer, entry_number};
 
 use crate::checks::refuse;
 use crate::entries::Entry;
@@ -9,13 +9,13 @@ use crate::kinds::{Kind, kind_of, version};
 use tariff::bounds::{MOST_MCF, MOST_MDQ, MOST_UNITS};
 
 fn account_too_high(k: Kind, e: Entry) -> bool
-    ensures { result ≡ accountTooHigh k e }
+    ensures { result ≡ account_too_high k e }
 {
     ((1 <= k.accounts) & (16 <= e.a)) | ((2 <= k.accounts) & (16 <= e.b))
 }
 
 fn unused_set(k: Kind, e: Entry) -> bool
-    ensures { result ≡ unusedSet k e }
+    ensures { result ≡ unused_set k e }
 {
     let a = (k.accounts < 1) & !(e.a == 0);
     let b = (k.accounts < 2) & !(e.b == 0);
@@ -31,13 +31,13 @@ fn unused_set(k: Kind, e: Entry) -> bool
 
 // Units from 1 to 10^9.
 fn some_units(w: u64) -> bool
-    ensures { result ≡ someUnits w }
+    ensures { result ≡ some_units w }
 {
     (1 <= w) & (w <= MOST_UNITS)
 }
 
 fn words_in_range(e: Entry) -> bool
-    ensures { result ≡ wordsInRange e }
+    ensures { result ≡ words_in_range e }
 {
     let kind = e.kind;
     match kind {
@@ -57,14 +57,14 @@ fn words_in_range(e: Entry) -> bool
 }
 
 fn wrong_transfer(e: Entry) -> bool
-    ensures { result ≡ wrongTransfer e }
+    ensures { result ≡ wrong_transfer e }
 {
     (e.kind == kinds::TRANSFER) & ((e.a == e.b) | !(e.w1 == e.w2))
 }
 
 // The number of the first of 2 to 7 that applies, or 0.
 pub fn number_of(is_new: bool, e: Entry) -> u64
-    ensures { result ≡ entryNumber is_new e }
+    ensures { result ≡ entry_number is_new e }
 {
     let date = e.date;
     let k = kind_of(e.kind);

@@ -2,7 +2,7 @@
 ghost use Rattle.std.specs.Prelude.{◌≡◌, ◌≤◌};
 ghost use Rattle.tariff.specs.Amounts.{size};
 ghost use Rattle.ledger.specs.Gas.{giving, taking};
-ghost use Rattle.tariff.specs.Bounds.{mostBank, mostBcq, mostUnits};
+ghost use Rattle.tariff.specs.Bounds.{most_bank, most_bcq, most_units};
 
 use crate::changes::Change;
 use crate::checks::refuse;
@@ -13,7 +13,7 @@ use tariff::limits::{above_maximum, below_minimum};
 use tariff::months::Month;
 
 pub fn give(m: Month, a: Account, q: Quantity) -> Change
-    requires { (size a.bank ≤ mostBank) × (a.capacity.bcq.0 ≤ mostBcq) × (q.0 ≤ mostUnits) }
+    requires { (size a.bank ≤ most_bank) × (a.capacity.bcq.0 ≤ most_bcq) × (q.0 ≤ most_units) }
     ensures { result ≡ giving m a q }
 {
     let bcq = a.capacity.bcq;
@@ -30,7 +30,7 @@ pub fn give(m: Month, a: Account, q: Quantity) -> Change
 }
 
 pub fn take(m: Month, a: Account, q: Quantity) -> Change
-    requires { (size a.bank ≤ mostBank) × (a.capacity.bcq.0 ≤ mostBcq) × (q.0 ≤ mostUnits) }
+    requires { (size a.bank ≤ most_bank) × (a.capacity.bcq.0 ≤ most_bcq) × (q.0 ≤ most_units) }
     ensures { result ≡ taking m a q }
 {
     let bcq = a.capacity.bcq;

@@ -1,7 +1,7 @@
 // HOLIDAY.
 ghost use Rattle.std.specs.Prelude.{◌≡◌};
 ghost use Rattle.ledger.specs.Checks.{verdict};
-ghost use Rattle.ledger.specs.Holiday.{holidayChecks, postHoliday};
+ghost use Rattle.ledger.specs.Holiday.{holiday_checks, post_holiday};
 ghost use Rattle.ledger.specs.declared.state.Ledger as declared;
 
 use crate::answers::{Posted, answered};
@@ -12,7 +12,7 @@ use tariff::holidays::Holidays;
 
 // Numbers 33 to 35, of a ledger by its date and its holidays.
 fn refusal(today: Date, held: Holidays, d: Date) -> u64
-    ensures { (l : declared.Ledger) → l.date ≡ today → l.holidays ≡ held → result ≡ verdict (holidayChecks l d) }
+    ensures { (l : declared.Ledger) → l.date ≡ today → l.holidays ≡ held → result ≡ verdict (holiday_checks l d) }
 {
     let later = today.before(d);
     if !(d.real() & later) {
@@ -30,7 +30,7 @@ fn refusal(today: Date, held: Holidays, d: Date) -> u64
 }
 
 pub fn post_holiday(l: Ledger, e: Entry) -> Posted
-    ensures { result ≡ postHoliday l e }
+    ensures { result ≡ post_holiday l e }
 {
     let today = l.date;
     let held = l.holidays;

@@ -1,6 +1,6 @@
 // The kinds of entries: their numbers, and the one table of what each uses.
 ghost use Rattle.std.specs.Prelude.{◌≡◌};
-ghost use Rattle.ledger.specs.Kinds.{row, version, kindOf};
+ghost use Rattle.ledger.specs.Kinds.{row, version, kind_of};
 
 pub const TERMS: u64 = 1;
 
@@ -57,7 +57,7 @@ pub fn version(is_new: bool) -> u64
 }
 
 pub fn kind_of(kind: u64) -> Kind
-    ensures { result ≡ kindOf kind }
+    ensures { result ≡ kind_of kind }
 {
     match kind {
         TERMS => row(0, 0, 6, 1),

@@ -26,12 +26,12 @@ mod usage;
 
 // The types that cross the boundary; the functions that do stand below, and none of them requires anything.
 ghost use Rattle.std.specs.Prelude.{◌≡◌};
-ghost use Rattle.ledger.specs.Forms.{formNumber};
+ghost use Rattle.ledger.specs.Forms.{form_number};
 ghost use Rattle.ledger.specs.State.{fresh};
 ghost use Rattle.ledger.specs.Posting.{posted};
-ghost use Rattle.ledger.specs.Panel.{bankOf, panelOf};
+ghost use Rattle.ledger.specs.Panel.{bank_of, panel_of};
 ghost use Rattle.ledger.specs.OldAndNew.{KeepsWhich, NineKinds, StaysAsBefore, ForfeitsByRule, ReportsAlike, AcceptsAlike, AlikeOtherwise};
-ghost use Rattle.ledger.specs.Measuring.{measurementDayIn, StaysInRange, EveryMonthMeasured, PlacesStay, StoredAnew, DropsPassed, KeepsOrder, HoldsIt, SameToday, MovesMeasuring};
+ghost use Rattle.ledger.specs.Measuring.{measurement_day_in, StaysInRange, EveryMonthMeasured, PlacesStay, StoredAnew, DropsPassed, KeepsOrder, HoldsIt, SameToday, MovesMeasuring};
 ghost use Rattle.ledger.specs.ConfiscatedCases.{ConfiscatedCases};
 ghost use Rattle.ledger.specs.HolidayCases.{HolidayCases};
 ghost use Rattle.ledger.specs.MarkedCases.{MarkedCases};
@@ -86,7 +86,7 @@ pub fn fresh(is_new: bool) -> Ledger
 
 // What is wrong with bytes by themselves, in an old list or in a new one: the first of 1 to 7 that applies, or 0.
 pub fn entry_number(is_new: bool, entry: &[u8]) -> u64
-    ensures { result ≡ formNumber is_new entry.now }
+    ensures { result ≡ form_number is_new entry.now }
 {
     if entry.len() != 32 {
         return 1;
@@ -148,7 +148,7 @@ pub fn post_in(ledger: &mut Ledger, entry: &[u8]) -> Answer
 
 // The figure that suppliers trade by, or 20 on a ledger out of range.
 pub fn panel(ledger: Ledger) -> Panel
-    ensures { result ≡ panelOf ledger }
+    ensures { result ≡ panel_of ledger }
 {
     if in_range(ledger) {
         let figure = open_banks(ledger);
@@ -162,7 +162,7 @@ pub fn panel(ledger: Ledger) -> Panel
 
 // The day of a month on which MEASURE is posted; 0 on a ledger out of range, or where the calendar has no such month.
 pub fn measurement_day(ledger: Ledger, year: u64, month: u64) -> u64
-    ensures { result ≡ measurementDayIn ledger year month }
+    ensures { result ≡ measurement_day_in ledger year month }
 {
     let held = ledger.holidays;
     let exists = ((2000 <= year) & (year <= 2099)) & ((1 <= month) & (month <= 12));
@@ -175,7 +175,7 @@ pub fn measurement_day(ledger: Ledger, year: u64, month: u64) -> u64
 
 // An account's bank; 0 where it is not open, or where there is no such account.
 pub fn bank(ledger: Ledger, account: usize) -> Units
-    ensures { result.0 ≡ bankOf ledger account }
+    ensures { result.0 ≡ bank_of ledger account }
 {
     if 16 <= account {
         return Units::nothing();

@@ -1,10 +1,10 @@
 // MEASURE.
 ghost use Rattle.std.specs.Prelude.{◌≡◌, true, ◌≤◌};
 ghost use Rattle.ledger.specs.Kinds.{MEASURE};
-ghost use Rattle.ledger.specs.Ranges.{accountInRange};
-ghost use Rattle.ledger.specs.Forms.{fieldNumber};
+ghost use Rattle.ledger.specs.Ranges.{account_in_range};
+ghost use Rattle.ledger.specs.Forms.{field_number};
 ghost use Rattle.ledger.specs.Measure.{remeasured, measurement};
-ghost use Rattle.tariff.specs.Bounds.{mostMdq};
+ghost use Rattle.tariff.specs.Bounds.{most_mdq};
 
 use crate::changes::Change;
 use crate::checks::refuse;
@@ -14,7 +14,7 @@ use crate::state::Account;
 use tariff::amounts::Dth;
 
 fn remeasured(a: Account, mdq: Dth) -> Account
-    requires { (accountInRange a ≡ true) × (mdq.0 ≤ mostMdq) }
+    requires { (account_in_range a ≡ true) × (mdq.0 ≤ most_mdq) }
     ensures { result ≡ remeasured a mdq }
 {
     let step = a.step;
@@ -29,7 +29,7 @@ fn remeasured(a: Account, mdq: Dth) -> Account
 }
 
 pub fn measurement(a: Account, e: Entry) -> Change
-    requires { (fieldNumber e ≡ 0) × (e.kind ≡ MEASURE) × (accountInRange a ≡ true) }
+    requires { (field_number e ≡ 0) × (e.kind ≡ MEASURE) × (account_in_range a ≡ true) }
     ensures { result ≡ measurement a e }
 {
     let b = remeasured(a, Dth(e.w1));

@@ -1,8 +1,8 @@
 // The panel.
 ghost use Rattle.std.specs.Prelude.{◌≡◌, true, ◌≤◌};
 ghost use Rattle.tariff.specs.Amounts.{size};
-ghost use Rattle.ledger.specs.Ranges.{inRange};
-ghost use Rattle.ledger.specs.Panel.{openBank, openBanks};
+ghost use Rattle.ledger.specs.Ranges.{in_range};
+ghost use Rattle.ledger.specs.Panel.{open_bank, open_banks};
 
 use crate::state::{Account, Ledger};
 use tariff::amounts::Units;
@@ -16,8 +16,8 @@ pub struct Panel {
 
 // The sum of the open banks of a ledger that is in range.
 pub fn open_banks(l: Ledger) -> Units
-    requires { inRange l ≡ true }
-    ensures { result.0 ≡ openBanks l.accounts }
+    requires { in_range l ≡ true }
+    ensures { result.0 ≡ open_banks l.accounts }
 {
     let mut figure = Units::nothing();
     for i in 0..16 {
@@ -29,7 +29,7 @@ pub fn open_banks(l: Ledger) -> Units
 }
 
 pub fn open_bank(a: Account) -> Units
-    ensures value { result.0 ≡ openBank a }
+    ensures value { result.0 ≡ open_bank a }
     ensures bounded { size result ≤ size a.bank }
 {
     let bank = a.bank;

@@ -1,12 +1,12 @@
 // Which rules a posting meets, by its kind.
 ghost use Rattle.std.specs.Prelude.{◌≡◌, true};
 ghost use Rattle.tariff.specs.Dates.{real};
-ghost use Rattle.tariff.specs.Holidays.{heldDates};
-ghost use Rattle.tariff.specs.Terms.{termsInRange};
-ghost use Rattle.ledger.specs.Forms.{fieldNumber};
-ghost use Rattle.ledger.specs.Ranges.{accountInRange, inRange};
-ghost use Rattle.ledger.specs.Days.{wrongDay};
-ghost use Rattle.ledger.specs.Posting.{admission, postSeveral, changeOf};
+ghost use Rattle.tariff.specs.Holidays.{held_dates};
+ghost use Rattle.tariff.specs.Terms.{terms_in_range};
+ghost use Rattle.ledger.specs.Forms.{field_number};
+ghost use Rattle.ledger.specs.Ranges.{account_in_range, in_range};
+ghost use Rattle.ledger.specs.Days.{wrong_day};
+ghost use Rattle.ledger.specs.Posting.{admission, post_several, change_of};
 ghost use Rattle.ledger.specs.declared.state.Ledger as declared;
 
 use crate::answers::{Posted, answered};
@@ -33,7 +33,7 @@ use tariff::terms::Terms;
 // Number 23.
 fn wrong_day(touched: bool, held: Holidays, e: Entry) -> bool
     requires { real e.date ≡ true }
-    ensures { result ≡ wrongDay touched (heldDates held) e }
+    ensures { result ≡ wrong_day touched (held_dates held) e }
 {
     let date = e.date;
     let kind = e.kind;
@@ -58,7 +58,7 @@ pub fn admission(
     held: Holidays,
     e: Entry,
 ) -> u64
-    ensures { (l : declared.Ledger) → inRange l ≡ fits → l.begun ≡ begun → l.touched ≡ touched → l.is_new ≡ is_new → l.date ≡ today → l.holidays ≡ held → result ≡ admission l e }
+    ensures { (l : declared.Ledger) → in_range l ≡ fits → l.begun ≡ begun → l.touched ≡ touched → l.is_new ≡ is_new → l.date ≡ today → l.holidays ≡ held → result ≡ admission l e }
 {
     let date = e.date;
     let n = number_of(is_new, e);
@@ -78,7 +78,7 @@ pub fn admission(
 // The kinds that name no account, or two.
 pub fn post_several(l: Ledger, e: Entry) -> Posted
     requires { admission l e ≡ 0 }
-    ensures { result ≡ postSeveral l e }
+    ensures { result ≡ post_several l e }
 {
     let kind = e.kind;
     match kind {
@@ -95,8 +95,8 @@ pub fn post_several(l: Ledger, e: Entry) -> Posted
 
 // Those that name one, by that account.
 pub fn change(t: Terms, a: Account, e: Entry) -> Change
-    requires { (fieldNumber e ≡ 0) × (accountInRange a ≡ true) × (termsInRange t ≡ true) }
-    ensures { result ≡ changeOf t a e }
+    requires { (field_number e ≡ 0) × (account_in_range a ≡ true) × (terms_in_range t ≡ true) }
+    ensures { result ≡ change_of t a e }
 {
     let kind = e.kind;
     match kind {

@@ -1,6 +1,6 @@
 // The ranges of the numbers in a ledger, whoever hands it in.
 ghost use Rattle.std.specs.Prelude.{◌≡◌};
-ghost use Rattle.ledger.specs.Ranges.{totalsInRange, stepInRange, accountInRange, inRange};
+ghost use Rattle.ledger.specs.Ranges.{totals_in_range, step_in_range, account_in_range, in_range};
 
 use crate::state::{Account, Ledger};
 use tariff::bill::Totals;
@@ -10,7 +10,7 @@ use tariff::bounds::{
 use tariff::steps::Step;
 
 fn totals_in_range(m: Totals) -> bool
-    ensures { result ≡ totalsInRange m }
+    ensures { result ≡ totals_in_range m }
 {
     let net = m.net.within(MOST_BANK, MOST_BANK);
     let trades = net & (m.sales.0 <= MOST_BANK) & (m.purchases.0 <= MOST_BANK);
@@ -18,7 +18,7 @@ fn totals_in_range(m: Totals) -> bool
 }
 
 fn step_in_range(opened: bool, s: Step) -> bool
-    ensures { result ≡ stepInRange opened s }
+    ensures { result ≡ step_in_range opened s }
 {
     let k = (1 <= s.k) & (s.k <= 100);
     let pending = (1 <= s.pending) & (s.pending <= 100);
@@ -27,7 +27,7 @@ fn step_in_range(opened: bool, s: Step) -> bool
 }
 
 pub fn account_in_range(a: Account) -> bool
-    ensures { result ≡ accountInRange a }
+    ensures { result ≡ account_in_range a }
 {
     let month = a.month.totals;
     let step = a.step;
@@ -48,7 +48,7 @@ pub fn account_in_range(a: Account) -> bool
 }
 
 pub fn in_range(l: Ledger) -> bool
-    ensures { result ≡ inRange l }
+    ensures { result ≡ in_range l }
 {
     let date = l.date;
     let terms = l.terms;

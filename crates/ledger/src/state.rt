@@ -1,6 +1,6 @@
 // The state that postings change.
 ghost use Rattle.std.specs.Prelude.{◌≡◌, ◌<◌};
-ghost use Rattle.ledger.specs.State.{noTotals, noMonth, noToday, nobody, withAccount};
+ghost use Rattle.ledger.specs.State.{no_totals, no_month, no_today, nobody, with_account};
 
 use tariff::amounts::{Dth, Mcf, Mills, Quantity, Units};
 use tariff::bill::Totals;
@@ -66,7 +66,7 @@ pub struct Ledger {
 }
 
 fn no_totals() -> Totals
-    ensures { result ≡ noTotals }
+    ensures { result ≡ no_totals }
 {
     Totals {
         net: Units(0),
@@ -79,7 +79,7 @@ fn no_totals() -> Totals
 }
 
 pub fn no_month() -> ThisMonth
-    ensures { result ≡ noMonth }
+    ensures { result ≡ no_month }
 {
     let totals = no_totals();
     ThisMonth {
@@ -90,7 +90,7 @@ pub fn no_month() -> ThisMonth
 }
 
 pub fn no_today() -> Today
-    ensures { result ≡ noToday }
+    ensures { result ≡ no_today }
 {
     Today {
         delivered: false,
@@ -144,7 +144,7 @@ pub fn in_one_piece(a: Account, which: bool) -> Account
 // With an account anew, after something was accepted.
 pub fn with_account(l: Ledger, i: usize, a: Account) -> Ledger
     requires { i < 16 }
-    ensures { result ≡ withAccount l i a }
+    ensures { result ≡ with_account l i a }
 {
     let mut next = l;
     next.accounts[i] = a;

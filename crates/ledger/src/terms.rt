@@ -1,10 +1,10 @@
 // TERMS.
 ghost use Rattle.std.specs.Prelude.{◌≡◌, true};
-ghost use Rattle.tariff.specs.Terms.{termsInRange};
+ghost use Rattle.tariff.specs.Terms.{terms_in_range};
 ghost use Rattle.ledger.specs.Kinds.{TERMS};
-ghost use Rattle.ledger.specs.Ranges.{accountInRange};
+ghost use Rattle.ledger.specs.Ranges.{account_in_range};
 ghost use Rattle.ledger.specs.Posting.{admission};
-ghost use Rattle.ledger.specs.Terms.{reworked, termsNext, postTerms};
+ghost use Rattle.ledger.specs.Terms.{reworked, terms_next, post_terms};
 
 use crate::answers::{Posted, settle};
 use crate::checks::refuse;
@@ -14,7 +14,7 @@ use crate::state::{Account, Ledger};
 use tariff::terms::Terms;
 
 fn reworked(t: Terms, a: Account) -> Account
-    requires { (termsInRange t ≡ true) × (accountInRange a ≡ true) }
+    requires { (terms_in_range t ≡ true) × (account_in_range a ≡ true) }
     ensures { result ≡ reworked t a }
 {
     let k = a.step.k;
@@ -29,7 +29,7 @@ fn reworked(t: Terms, a: Account) -> Account
 
 fn terms_next(l: Ledger, e: Entry) -> Ledger
     requires { (admission l e ≡ 0) × (e.kind ≡ TERMS) }
-    ensures { result ≡ termsNext l e }
+    ensures { result ≡ terms_next l e }
 {
     let terms = e.terms();
     let date = e.date;
@@ -48,7 +48,7 @@ fn terms_next(l: Ledger, e: Entry) -> Ledger
 
 pub fn post_terms(l: Ledger, e: Entry) -> Posted
     requires { (admission l e ≡ 0) × (e.kind ≡ TERMS) }
-    ensures { result ≡ postTerms l e }
+    ensures { result ≡ post_terms l e }
 {
     let next = terms_next(l, e);
     let out = !in_range(next);

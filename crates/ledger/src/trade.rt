@@ -1,10 +1,10 @@
 // TRADE.
 ghost use Rattle.std.specs.Prelude.{◌≡◌, true, ◌≤◌};
 ghost use Rattle.ledger.specs.Kinds.{TRADE};
-ghost use Rattle.ledger.specs.Ranges.{accountInRange};
-ghost use Rattle.ledger.specs.Forms.{fieldNumber};
+ghost use Rattle.ledger.specs.Ranges.{account_in_range};
+ghost use Rattle.ledger.specs.Forms.{field_number};
 ghost use Rattle.ledger.specs.Trade.{booked, traded, trade};
-ghost use Rattle.tariff.specs.Bounds.{mostUnits};
+ghost use Rattle.tariff.specs.Bounds.{most_units};
 
 use crate::changes::Change;
 use crate::checks::refuse;
@@ -14,7 +14,7 @@ use crate::state::Account;
 use tariff::amounts::Quantity;
 
 fn booked(sells: bool, a: Account, q: Quantity) -> Account
-    requires { (accountInRange a ≡ true) × (q.0 ≤ mostUnits) }
+    requires { (account_in_range a ≡ true) × (q.0 ≤ most_units) }
     ensures { result ≡ booked sells a q }
 {
     let mut month = a.month;
@@ -35,7 +35,7 @@ fn booked(sells: bool, a: Account, q: Quantity) -> Account
 }
 
 fn traded(a: Account, e: Entry) -> Change
-    requires { (accountInRange a ≡ true) × (e.w1 ≤ mostUnits) }
+    requires { (account_in_range a ≡ true) × (e.w1 ≤ most_units) }
     ensures { result ≡ traded a e }
 {
     let date = e.date;
@@ -50,7 +50,7 @@ fn traded(a: Account, e: Entry) -> Change
 }
 
 pub fn trade(a: Account, e: Entry) -> Change
-    requires { (fieldNumber e ≡ 0) × (e.kind ≡ TRADE) × (accountInRange a ≡ true) }
+    requires { (field_number e ≡ 0) × (e.kind ≡ TRADE) × (account_in_range a ≡ true) }
     ensures { result ≡ trade a e }
 {
     let c = traded(a, e);

@@ -2,7 +2,7 @@
 ghost use Rattle.std.specs.Prelude.{◌≡◌};
 ghost use Rattle.ledger.specs.Kinds.{TRANSFER};
 ghost use Rattle.ledger.specs.Posting.{admission};
-ghost use Rattle.ledger.specs.Transfer.{postTransfer};
+ghost use Rattle.ledger.specs.Transfer.{post_transfer};
 
 use crate::answers::{Posted, settle};
 use crate::checks::refuse;
@@ -13,7 +13,7 @@ use tariff::amounts::Quantity;
 
 pub fn post_transfer(l: Ledger, e: Entry) -> Posted
     requires { (admission l e ≡ 0) × (e.kind ≡ TRANSFER) }
-    ensures { result ≡ postTransfer l e }
+    ensures { result ≡ post_transfer l e }
 {
     let i = e.a;
     let j = e.b;

@@ -6,19 +6,19 @@ mod cells;
 
 ghost use Rattle.std.specs.Prelude.{◌≡◌, cond, ltb, length};
 ghost use Rattle.ledger.specs.State.{fresh};
-ghost use Rattle.ledger.specs.Forms.{formNumber};
+ghost use Rattle.ledger.specs.Forms.{form_number};
 ghost use Rattle.ledger.specs.Posting.{posted};
-ghost use Rattle.ledger.specs.Panel.{panelOf};
-ghost use Rattle.ledger.specs.Measuring.{measurementDayIn};
-ghost use Rattle.archive.specs.Writing.{written, outputAfter};
-ghost use Rattle.archive.specs.Reading.{isNew, checked, placeOf};
-ghost use Rattle.archive.specs.Replay.{figuresOf};
-ghost use Rattle.archive.specs.YearSheet.{sheetOf};
-ghost use Rattle.backcast.specs.Answers.{backCast};
-ghost use Rattle.partners.specs.Listing.{partnersOf};
-ghost use Rattle.nedrulov.specs.Cells.{cellsAfter};
-ghost use Rattle.nedrulov.specs.Amounts.{deliveryAmount};
-ghost use Rattle.nedrulov.specs.Limits.{bandOf};
+ghost use Rattle.ledger.specs.Panel.{panel_of};
+ghost use Rattle.ledger.specs.Measuring.{measurement_day_in};
+ghost use Rattle.archive.specs.Writing.{written, output_after};
+ghost use Rattle.archive.specs.Reading.{is_new, checked, place_of};
+ghost use Rattle.archive.specs.Replay.{figures_of};
+ghost use Rattle.archive.specs.YearSheet.{sheet_of};
+ghost use Rattle.backcast.specs.Answers.{back_cast};
+ghost use Rattle.partners.specs.Listing.{partners_of};
+ghost use Rattle.nedrulov.specs.Cells.{cells_after};
+ghost use Rattle.nedrulov.specs.Amounts.{delivery_amount};
+ghost use Rattle.nedrulov.specs.Limits.{band_of};
 
 use crate::cells::put_cells;
 use archive::{Checked, Figures, Place, Written};
@@ -47,7 +47,7 @@ pub extern "C" fn nedrulov_fresh(is_new: bool) -> Ledger
 
 #[unsafe(no_mangle)]
 pub extern "C" fn nedrulov_entry_number(is_new: bool, entry: &[u8]) -> u64
-    ensures { result ≡ formNumber is_new entry.now }
+    ensures { result ≡ form_number is_new entry.now }
 {
     ledger::entry_number(is_new, entry)
 }
@@ -69,7 +69,7 @@ pub extern "C" fn nedrulov_post_by_value(ledger: Ledger, entry: &[u8]) -> Posted
 
 #[unsafe(no_mangle)]
 pub extern "C" fn nedrulov_panel(ledger: Ledger) -> Panel
-    ensures { result ≡ panelOf ledger }
+    ensures { result ≡ panel_of ledger }
 {
     ledger::panel(ledger)
 }
@@ -77,14 +77,14 @@ pub extern "C" fn nedrulov_panel(ledger: Ledger) -> Panel
 // The day of a month on which MEASURE is posted, by the holidays that the ledger holds.
 #[unsafe(no_mangle)]
 pub extern "C" fn nedrulov_measurement_day(ledger: Ledger, year: u64, month: u64) -> u64
-    ensures { result ≡ measurementDayIn ledger year month }
+    ensures { result ≡ measurement_day_in ledger year month }
 {
     ledger::measurement_day(ledger, year, month)
 }
 
 #[unsafe(no_mangle)]
 pub extern "C" fn nedrulov_is_new(archive: &[u8]) -> bool
-    ensures { result ≡ isNew archive.now }
+    ensures { result ≡ is_new archive.now }
 {
     archive::is_new(archive)
 }
@@ -98,7 +98,7 @@ pub extern "C" fn nedrulov_check(archive: &[u8]) -> Checked
 
 #[unsafe(no_mangle)]
 pub extern "C" fn nedrulov_place(archive: &[u8], section: usize) -> Place
-    ensures { result ≡ placeOf archive.now section }
+    ensures { result ≡ place_of archive.now section }
 {
     archive::place(archive, section)
 }
@@ -106,14 +106,14 @@ pub extern "C" fn nedrulov_place(archive: &[u8], section: usize) -> Place
 #[unsafe(no_mangle)]
 pub extern "C" fn nedrulov_write(is_new: bool, list: &[u8], out: &mut [u8]) -> Written
     ensures answer { result ≡ written is_new list.now (length out.old) }
-    ensures output { out.new ≡ outputAfter is_new list.now out.old }
+    ensures output { out.new ≡ output_after is_new list.now out.old }
 {
     archive::write(is_new, list, out)
 }
 
 #[unsafe(no_mangle)]
 pub extern "C" fn nedrulov_figures(archive: &[u8]) -> Figures
-    ensures { result ≡ figuresOf archive.now }
+    ensures { result ≡ figures_of archive.now }
 {
     archive::figures(archive)
 }
@@ -122,7 +122,7 @@ pub extern "C" fn nedrulov_figures(archive: &[u8]) -> Figures
 #[unsafe(no_mangle)]
 pub extern "C" fn nedrulov_year_sheet(archive: &[u8], year: u64, cells: &mut [i64]) -> u64
     ensures number { result ≡ cond (ltb (length cells.old) 192) 12 0 }
-    ensures cells { cells.new ≡ cellsAfter (sheetOf archive.now year) cells.old }
+    ensures cells { cells.new ≡ cells_after (sheet_of archive.now year) cells.old }
 {
     if cells.len() < 192 {
         return 12;
@@ -135,7 +135,7 @@ pub extern "C" fn nedrulov_year_sheet(archive: &[u8], year: u64, cells: &mut [i6
 // The amount that a DELIVER adds to its bank under the retainage R; 0 where one of the three is out of its range.
 #[unsafe(no_mangle)]
 pub extern "C" fn nedrulov_amount(retainage: u64, delivered: u64, back_cast: u64) -> i64
-    ensures { result ≡ deliveryAmount retainage delivered back_cast }
+    ensures { result ≡ delivery_amount retainage delivered back_cast }
 {
     if (retainage <= MOST_RETAINAGE) & (delivered <= MOST_UNITS) & (back_cast <= MOST_UNITS) {
         let amount = retained(retainage, Quantity(delivered), Quantity(back_cast));
@@ -147,7 +147,7 @@ pub extern "C" fn nedrulov_amount(retainage: u64, delivered: u64, back_cast: u64
 // A month's minimum and maximum of a BCQ; 0 and 0 where there is no such month or the BCQ is out of its range.
 #[unsafe(no_mangle)]
 pub extern "C" fn nedrulov_band(month: u64, bcq: u64) -> Band
-    ensures { result ≡ bandOf month bcq }
+    ensures { result ≡ band_of month bcq }
 {
     if (1 <= month) & (month <= 12) & (bcq <= MOST_BCQ) {
         let m = Month(month);
@@ -167,7 +167,7 @@ pub extern "C" fn nedrulov_band(month: u64, bcq: u64) -> Band
 // The back-cast of a day from its temperature, in units; 31 where one of the four is no number, 32 where the load is not from 0 to 10^9.
 #[unsafe(no_mangle)]
 pub extern "C" fn nedrulov_back_cast(curve: LoadCurve, temperature: f64) -> BackCast
-    ensures { result ≡ backCast curve temperature }
+    ensures { result ≡ back_cast curve temperature }
 {
     backcast::back_cast(curve, temperature)
 }
@@ -175,7 +175,7 @@ pub extern "C" fn nedrulov_back_cast(curve: LoadCurve, temperature: f64) -> Back
 // Who could take a quantity of a seller's gas today, in order.
 #[unsafe(no_mangle)]
 pub extern "C" fn nedrulov_partners(ledger: Ledger, seller: u64, quantity: u64) -> PartnerList
-    ensures { result ≡ partnersOf ledger seller quantity }
+    ensures { result ≡ partners_of ledger seller quantity }
 {
     partners::partners(ledger, seller, quantity)
 }

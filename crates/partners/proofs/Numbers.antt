@@ -4,45 +4,45 @@ use mathlib.Core.Path.{◌≡◌, refl, sym, ◌∙◌}
 use mathlib.Core.Bool.{true, cond, not, ◌&&◌}
 use lib.Dec.{leb}
 use borrow.Author.Tests.{leb-false, leb-true, not-false}
-use Rattle.tariff.proofs.Bools.{and-left, and-right}
+use Rattle.tariff.proofs.Bools.{and_left, and_right}
 use Rattle.ledger.specs.Checks.{verdict}
-use Rattle.ledger.specs.Forms.{someUnits}
-use Rattle.ledger.specs.Ranges.{inRange}
-use Rattle.ledger.specs.State.{accountAt}
-use Rattle.ledger.proofs.Fields.{units-between}
-use Rattle.ledger.proofs.Verdicts.{clear, verdict-next, verdict-none}
-use Rattle.partners.specs.Listing.{partnerChecks}
+use Rattle.ledger.specs.Forms.{some_units}
+use Rattle.ledger.specs.Ranges.{in_range}
+use Rattle.ledger.specs.State.{account_at}
+use Rattle.ledger.proofs.Fields.{units_between}
+use Rattle.ledger.proofs.Verdicts.{clear, verdict_next, verdict_none}
+use Rattle.partners.specs.Listing.{partner_checks}
 use Rattle.partners.specs.Structs.{Ledger}
 
 module _ (l : Ledger) (s q : ℕ) where
-  pub check-by-check : verdict (partnerChecks l s q)
-      ≡ cond (leb 16 s) 4 (cond (not (leb 1 q && leb q 1000000000)) 6 (cond (not (inRange l)) 20 (cond (not l.begun) 21 (cond (not (accountAt l s).opened) 24 0))))
-  unfolding partnerChecks
-  check-by-check = simp (verdict-next, verdict-none, units-between)
+  pub check_by_check : verdict (partner_checks l s q)
+      ≡ cond (leb 16 s) 4 (cond (not (leb 1 q && leb q 1000000000)) 6 (cond (not (in_range l)) 20 (cond (not l.begun) 21 (cond (not (account_at l s).opened) 24 0))))
+  unfolding partner_checks
+  check_by_check = simp (verdict_next, verdict_none, units_between)
 
   -- a number of 0 tells of each check that it found nothing wrong
-  module _ (h : verdict (partnerChecks l s q) ≡ 0) where
-    pub in-reach : s < 16
-    unfolding partnerChecks
-    in-reach = leb-false 16 s (clear _ refl h 0)
+  module _ (h : verdict (partner_checks l s q) ≡ 0) where
+    pub in_reach : s < 16
+    unfolding partner_checks
+    in_reach = leb-false 16 s (clear _ refl h 0)
 
-    pub is-some : someUnits q ≡ true
-    unfolding partnerChecks
-    is-some = not-false (someUnits q) (clear _ refl h 1)
+    pub is_some : some_units q ≡ true
+    unfolding partner_checks
+    is_some = not-false (some_units q) (clear _ refl h 1)
 
-    pub some-fit : (1 ≤ q) × (q ≤ 1000000000)
-    some-fit =
-        let t : leb 1 q && leb q 1000000000 ≡ true = sym (units-between q) ∙ is-some in
-        (leb-true 1 q (and-left (leb 1 q) (leb q 1000000000) t), leb-true q 1000000000 (and-right (leb 1 q) (leb q 1000000000) t))
+    pub some_fit : (1 ≤ q) × (q ≤ 1000000000)
+    some_fit =
+        let t : leb 1 q && leb q 1000000000 ≡ true = sym (units_between q) ∙ is_some in
+        (leb-true 1 q (and_left (leb 1 q) (leb q 1000000000) t), leb-true q 1000000000 (and_right (leb 1 q) (leb q 1000000000) t))
 
-    pub is-ranged : inRange l ≡ true
-    unfolding partnerChecks
-    is-ranged = not-false (inRange l) (clear _ refl h 2)
+    pub is_ranged : in_range l ≡ true
+    unfolding partner_checks
+    is_ranged = not-false (in_range l) (clear _ refl h 2)
 
-    pub is-begun : l.begun ≡ true
-    unfolding partnerChecks
-    is-begun = not-false l.begun (clear _ refl h 3)
+    pub is_begun : l.begun ≡ true
+    unfolding partner_checks
+    is_begun = not-false l.begun (clear _ refl h 3)
 
-    pub is-open : (accountAt l s).opened ≡ true
-    unfolding partnerChecks
-    is-open = not-false (accountAt l s).opened (clear _ refl h 4)
+    pub is_open : (account_at l s).opened ≡ true
+    unfolding partner_checks
+    is_open = not-false (account_at l s).opened (clear _ refl h 4)

@@ -10,7 +10,7 @@ mod receivers;
 // The types that cross the boundary; the functions that do stand below, and none of them requires anything.
 ghost use Rattle.std.specs.Prelude.{◌≡◌};
 ghost use Rattle.partners.specs.EveryList.{EveryList, EveryOrder, OnlyOne};
-ghost use Rattle.partners.specs.Listing.{partnersOf};
+ghost use Rattle.partners.specs.Listing.{partners_of};
 ghost use Rattle.partners.specs.Transfers.{ListedCanBeSent};
 ghost use Rattle.partners.specs.WorkedCases.{WorkedCases};
 
@@ -22,7 +22,7 @@ use tariff::amounts::Quantity;
 
 // Any seller and any quantity, of any ledger.
 pub fn partners(ledger: Ledger, seller: u64, quantity: u64) -> PartnerList
-    ensures { result ≡ partnersOf ledger seller quantity }
+    ensures { result ≡ partners_of ledger seller quantity }
 {
     let n = number(ledger, seller, quantity);
     if n != 0 {

@@ -1,7 +1,7 @@
 // The month's limits on both sides, asked before any gas moves.
 ghost use Rattle.std.specs.Prelude.{◌≡◌, ◌≤◌};
 ghost use Rattle.tariff.specs.Amounts.{size};
-ghost use Rattle.tariff.specs.Bounds.{mostBank, mostBcq, mostUnits};
+ghost use Rattle.tariff.specs.Bounds.{most_bank, most_bcq, most_units};
 ghost use Rattle.partners.specs.Receivers.{spares, takes};
 
 use ledger::Account;
@@ -10,7 +10,7 @@ use tariff::limits::{above_maximum, below_minimum};
 use tariff::months::Month;
 
 pub fn takes(m: Month, a: Account, q: Quantity) -> bool
-    requires { (size a.bank ≤ mostBank) × (a.capacity.bcq.0 ≤ mostBcq) × (q.0 ≤ mostUnits) }
+    requires { (size a.bank ≤ most_bank) × (a.capacity.bcq.0 ≤ most_bcq) × (q.0 ≤ most_units) }
     ensures { result ≡ takes m a q }
 {
     let bcq = a.capacity.bcq;
@@ -19,7 +19,7 @@ pub fn takes(m: Month, a: Account, q: Quantity) -> bool
 }
 
 pub fn spares(m: Month, a: Account, q: Quantity) -> bool
-    requires { (size a.bank ≤ mostBank) × (a.capacity.bcq.0 ≤ mostBcq) × (q.0 ≤ mostUnits) }
+    requires { (size a.bank ≤ most_bank) × (a.capacity.bcq.0 ≤ most_bcq) × (q.0 ≤ most_units) }
     ensures { result ≡ spares m a q }
 {
     let bcq = a.capacity.bcq;

@@ -1,25 +1,25 @@
 -- No percentage of a month is above 102: each table is compared entry by entry.
 use Prim.Native.Nat.{◌≤◌}
-use Rattle.tariff.specs.Months.{minimum, maximum, mmbq, withdrawalMaximum, withdrawalMinimum}
+use Rattle.tariff.specs.Months.{minimum, maximum, mmbq, withdrawal_maximum, withdrawal_minimum}
 use Rattle.tariff.specs.Structs.{Month}
-use Rattle.tariff.proofs.Tables.{entry-le}
+use Rattle.tariff.proofs.Tables.{entry_le}
 
-pub minimum-le : (m : Month) → minimum m ≤ 102
+pub minimum_le : (m : Month) → minimum m ≤ 102
 unfolding minimum
-minimum-le m = search entry-le
+minimum_le m = search entry_le
 
-pub maximum-le : (m : Month) → maximum m ≤ 102
+pub maximum_le : (m : Month) → maximum m ≤ 102
 unfolding maximum
-maximum-le m = search entry-le
+maximum_le m = search entry_le
 
-pub mmbq-le : (m : Month) → mmbq m ≤ 102
+pub mmbq_le : (m : Month) → mmbq m ≤ 102
 unfolding mmbq
-mmbq-le m = search entry-le
+mmbq_le m = search entry_le
 
-pub withdrawal-maximum-le : (m : Month) → withdrawalMaximum m ≤ 102
-unfolding withdrawalMaximum
-withdrawal-maximum-le m = search entry-le
+pub withdrawal_maximum_le : (m : Month) → withdrawal_maximum m ≤ 102
+unfolding withdrawal_maximum
+withdrawal_maximum_le m = search entry_le
 
-pub withdrawal-minimum-le : (m : Month) → withdrawalMinimum m ≤ 102
-unfolding withdrawalMinimum
-withdrawal-minimum-le m = search entry-le
+pub withdrawal_minimum_le : (m : Month) → withdrawal_minimum m ≤ 102
+unfolding withdrawal_minimum
+withdrawal_minimum_le m = search entry_le

@@ -2,42 +2,42 @@
 use Rattle.std.specs.Prelude.{ℕ}
 
 -- R13: of the terms, NN and DD in Dth, R in ten-thousandths; any rate or price in mills.
-abbrev pub mostNoNotice : ℕ
-mostNoNotice = 10000000
+abbrev pub most_no_notice : ℕ
+most_no_notice = 10000000
 
-abbrev pub mostDesignDay : ℕ
-mostDesignDay = 100000000
+abbrev pub most_design_day : ℕ
+most_design_day = 100000000
 
-abbrev pub mostRetainage : ℕ
-mostRetainage = 9999
+abbrev pub most_retainage : ℕ
+most_retainage = 9999
 
-abbrev pub mostRate : ℕ
-mostRate = 100000
+abbrev pub most_rate : ℕ
+most_rate = 100000
 
 -- R13: the gas of one posting, in units.
-abbrev pub mostUnits : ℕ
-mostUnits = 1000000000
+abbrev pub most_units : ℕ
+most_units = 1000000000
 
 -- R16: a bank above zero and an overdrawn one, in units; a month's gas and the carry reach as far as a bank above zero.
-abbrev pub mostBank : ℕ
-mostBank = 100000000000
+abbrev pub most_bank : ℕ
+most_bank = 100000000000
 
-abbrev pub mostOverdraft : ℕ
-mostOverdraft = 1000000000
+abbrev pub most_overdraft : ℕ
+most_overdraft = 1000000000
 
 -- R13, R16: MDQ and MDDQ, and BCQ, in Dth; the consumption of a month in Mcf.
-abbrev pub mostMdq : ℕ
-mostMdq = 300000
+abbrev pub most_mdq : ℕ
+most_mdq = 300000
 
-abbrev pub mostBcq : ℕ
-mostBcq = 30000000
+abbrev pub most_bcq : ℕ
+most_bcq = 30000000
 
-abbrev pub mostMcf : ℕ
-mostMcf = 100000000
+abbrev pub most_mcf : ℕ
+most_mcf = 100000000
 
 -- R16: what is owed, in mills, either way; and violation days.
-abbrev pub mostOwed : ℕ
-mostOwed = 1000000000000000
+abbrev pub most_owed : ℕ
+most_owed = 1000000000000000
 
-abbrev pub mostDays : ℕ
-mostDays = 40000
+abbrev pub most_days : ℕ
+most_days = 40000

@@ -5,9 +5,9 @@ use Rattle.tariff.specs.Amounts.{above, below, percent}
 use Rattle.tariff.specs.Months.{minimum, maximum}
 
 -- R36: asked of where a receiving bank ends, since a giving one may stand above.
-unfoldable pub aboveMaximum : Month → Dth → Units → Bool
-aboveMaximum m bcq bank = above bank (percent (maximum m) bcq)
+unfoldable pub above_maximum : Month → Dth → Units → Bool
+above_maximum m bcq bank = above bank (percent (maximum m) bcq)
 
 -- R36: asked of where a giving bank ends, since a receiving one may stand below.
-unfoldable pub belowMinimum : Month → Dth → Units → Bool
-belowMinimum m bcq bank = below bank (percent (minimum m) bcq)
+unfoldable pub below_minimum : Month → Dth → Units → Bool
+below_minimum m bcq bank = below bank (percent (minimum m) bcq)

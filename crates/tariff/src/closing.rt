@@ -2,8 +2,8 @@
 ghost use Rattle.std.specs.Prelude.{◌≡◌, true, cond, ◌+◌, ◌≤◌};
 ghost use Rattle.tariff.specs.Amounts.{size};
 ghost use Rattle.tariff.specs.Dates.{real};
-ghost use Rattle.tariff.specs.Closing.{breaksV3, withdrawalLimit, breaksV4, breaksV5, breaksV6, breaksV7, breaksV8, cashOf, endsExcuse, carryOf, excessOver, forfeitOf, forfeitUnder, maskOf};
-ghost use Rattle.tariff.specs.Bounds.{mostBank, mostBcq};
+ghost use Rattle.tariff.specs.Closing.{breaks_v3, withdrawal_limit, breaks_v4, breaks_v5, breaks_v6, breaks_v7, breaks_v8, cash_of, ends_excuse, carry_of, excess_over, forfeit_of, forfeit_under, mask_of};
+ghost use Rattle.tariff.specs.Bounds.{most_bank, most_bcq};
 
 use crate::amounts::{Dth, Quantity, Units};
 use crate::choice::{choose, larger, smaller};
@@ -11,16 +11,16 @@ use crate::dates::Date;
 use crate::months::Month;
 
 pub fn breaks_v3(m: Month, bcq: Dth, net: Units) -> bool
-    requires { bcq.0 ≤ mostBcq }
-    ensures { result ≡ breaksV3 m bcq net }
+    requires { bcq.0 ≤ most_bcq }
+    ensures { result ≡ breaks_v3 m bcq net }
 {
     net.above(Quantity::percent(m.mmbq(), bcq))
 }
 
 // The most that a winter month may still withdraw, after what the months before it took too much.
 pub fn withdrawal_limit(m: Month, bcq: Dth, carry: Quantity) -> Quantity
-    requires { bcq.0 ≤ mostBcq }
-    ensures value { result ≡ withdrawalLimit m bcq carry }
+    requires { bcq.0 ≤ most_bcq }
+    ensures value { result ≡ withdrawal_limit m bcq carry }
     ensures bounded { result.0 ≤ 3060000000 }
 {
     let most = Quantity::percent(m.withdrawal_maximum(), bcq);
@@ -28,15 +28,15 @@ pub fn withdrawal_limit(m: Month, bcq: Dth, carry: Quantity) -> Quantity
 }
 
 pub fn breaks_v4(m: Month, limit: Quantity, net: Units) -> bool
-    requires { (limit.0 ≤ mostBank) × (size net ≤ mostBank) }
-    ensures { result ≡ breaksV4 m limit net }
+    requires { (limit.0 ≤ most_bank) × (size net ≤ most_bank) }
+    ensures { result ≡ breaks_v4 m limit net }
 {
     m.winter() & net.opposite().above(limit)
 }
 
 pub fn breaks_v5(d: Date, bcq: Dth, net: Units) -> bool
-    requires { (real d ≡ true) × (bcq.0 ≤ mostBcq) × (size net ≤ mostBank) }
-    ensures { result ≡ breaksV5 d bcq net }
+    requires { (real d ≡ true) × (bcq.0 ≤ most_bcq) × (size net ≤ most_bank) }
+    ensures { result ≡ breaks_v5 d bcq net }
 {
     let m = d.month;
     let asked = d.last_of_month() & (m.is(Month::FEBRUARY) | m.is(Month::MARCH));
@@ -45,8 +45,8 @@ pub fn breaks_v5(d: Date, bcq: Dth, net: Units) -> bool
 }
 
 pub fn breaks_v6(d: Date, bcq: Dth, bank: Units) -> bool
-    requires { bcq.0 ≤ mostBcq }
-    ensures { result ≡ breaksV6 d bcq bank }
+    requires { bcq.0 ≤ most_bcq }
+    ensures { result ≡ breaks_v6 d bcq bank }
 {
     let in_june = d.is_on(Month::JUNE, 30) & bank.above(Quantity::percent(60, bcq));
     let in_august = d.is_on(Month::AUGUST, 31) & bank.above(Quantity::percent(85, bcq));
@@ -54,22 +54,22 @@ pub fn breaks_v6(d: Date, bcq: Dth, bank: Units) -> bool
 }
 
 pub fn breaks_v7(bank: Units) -> bool
-    ensures { result ≡ breaksV7 bank }
+    ensures { result ≡ breaks_v7 bank }
 {
     bank.below(Quantity(0))
 }
 
 pub fn breaks_v8(excused: bool, bcq: Dth, bank: Units) -> bool
-    requires { bcq.0 ≤ mostBcq }
-    ensures { result ≡ breaksV8 excused bcq bank }
+    requires { bcq.0 ≤ most_bcq }
+    ensures { result ≡ breaks_v8 excused bcq bank }
 {
     !excused & bank.above(Quantity::percent(102, bcq))
 }
 
 // Up to the month's minimum for a bank below zero, down to its maximum for one too high.
 pub fn cash(m: Month, excused: bool, bcq: Dth, bank: Units) -> Units
-    requires { (bcq.0 ≤ mostBcq) × (size bank ≤ mostBank) }
-    ensures value { result ≡ cashOf m excused bcq bank }
+    requires { (bcq.0 ≤ most_bcq) × (size bank ≤ most_bank) }
+    ensures value { result ≡ cash_of m excused bcq bank }
     ensures bounded { size result ≤ size bank + 3060000000 }
 {
     if breaks_v7(bank) {
@@ -82,16 +82,16 @@ pub fn cash(m: Month, excused: bool, bcq: Dth, bank: Units) -> Units
 }
 
 pub fn ends_excuse(m: Month, bcq: Dth, bank: Units) -> bool
-    requires { bcq.0 ≤ mostBcq }
-    ensures { result ≡ endsExcuse m bcq bank }
+    requires { bcq.0 ≤ most_bcq }
+    ensures { result ≡ ends_excuse m bcq bank }
 {
     !bank.above(Quantity::percent(m.maximum(), bcq))
 }
 
 // max(0, a − q).
 fn excess(a: Units, q: Quantity) -> Quantity
-    requires { (size a ≤ 300000000000) × (q.0 ≤ mostBank) }
-    ensures value { result ≡ excessOver a q }
+    requires { (size a ≤ 300000000000) × (q.0 ≤ most_bank) }
+    ensures value { result ≡ excess_over a q }
     ensures bounded { result.0 ≤ size a }
 {
     a.less(q).inward()
@@ -99,8 +99,8 @@ fn excess(a: Units, q: Quantity) -> Quantity
 
 // Withdrawn beyond the limit, which the next month's limit is less by; March carries nothing into April.
 pub fn carry(m: Month, limit: Quantity, net: Units) -> Quantity
-    requires { (limit.0 ≤ mostBank) × (size net ≤ mostBank) }
-    ensures value { result ≡ carryOf m limit net }
+    requires { (limit.0 ≤ most_bank) × (size net ≤ most_bank) }
+    ensures value { result ≡ carry_of m limit net }
     ensures bounded { result.0 ≤ size net }
 {
     let beyond = excess(net.opposite(), limit);
@@ -110,8 +110,8 @@ pub fn carry(m: Month, limit: Quantity, net: Units) -> Quantity
 
 // What a bank has above the share that it may keep past January or March.
 pub fn forfeit(m: Month, bcq: Dth, bank: Units) -> Quantity
-    requires { (bcq.0 ≤ mostBcq) × (size bank ≤ 300000000000) }
-    ensures value { result ≡ forfeitOf m bcq bank }
+    requires { (bcq.0 ≤ most_bcq) × (size bank ≤ 300000000000) }
+    ensures value { result ≡ forfeit_of m bcq bank }
     ensures bounded { result.0 ≤ size bank }
 {
     let in_january = excess(bank, Quantity::percent(65, bcq));
@@ -125,7 +125,7 @@ pub fn forfeit(m: Month, bcq: Dth, bank: Units) -> Quantity
 
 // How much of it is taken: all under the first rule, under the new one no more than the storage provider confiscated.
 pub fn forfeit_under(is_new: bool, confiscated: Quantity, excess: Quantity) -> Quantity
-    ensures value { result ≡ forfeitUnder is_new confiscated excess }
+    ensures value { result ≡ forfeit_under is_new confiscated excess }
     ensures bounded { result.0 ≤ excess.0 }
 {
     Quantity(choose(is_new, smaller(confiscated.0, excess.0), excess.0))
@@ -139,7 +139,7 @@ fn bit(broken: bool, value: u64) -> u64
 }
 
 pub fn mask(v1: bool, v2: bool, v3: bool, v4: bool, v5: bool, v6: bool, v7: bool, v8: bool) -> u64
-    ensures value { result ≡ maskOf v1 v2 v3 v4 v5 v6 v7 v8 }
+    ensures value { result ≡ mask_of v1 v2 v3 v4 v5 v6 v7 v8 }
     ensures bounded { result ≤ 255 }
 {
     bit(v1, 1)

@@ -1,6 +1,6 @@
 // Dates of 2000 to 2099.
 ghost use Rattle.std.specs.Prelude.{◌≡◌, true, false, ◌+◌, ◌<◌, ◌≤◌};
-ghost use Rattle.tariff.specs.Dates.{leap, monthLength, real, sameDate, before, isOn, firstOfGasYear, confiscationDay, lastOfMonth, lastDate, dayAfter, dayNumber, weekday};
+ghost use Rattle.tariff.specs.Dates.{leap, month_length, real, same_date, before, is_on, first_of_gas_year, confiscation_day, last_of_month, last_date, day_after, day_number, weekday};
 
 use crate::choice::choose;
 use crate::months::Month;
@@ -26,7 +26,7 @@ fn leap(year: u64) -> bool
 pub fn month_length(year: u64, month: Month) -> u64
     requires in_years { (2000 ≤ year) × (year ≤ 2099) }
     requires in_months { (1 ≤ month.0) × (month.0 ≤ 12) }
-    ensures { result ≡ monthLength year month }
+    ensures { result ≡ month_length year month }
 {
     let m = month.0;
     let february = choose(leap(year), 29, 28);
@@ -48,7 +48,7 @@ impl Date {
     }
 
     pub fn same(self, other: Date) -> bool
-        ensures { result ≡ sameDate self other }
+        ensures { result ≡ same_date self other }
     {
         let month = self.month;
         let other_month = other.month;
@@ -68,7 +68,7 @@ impl Date {
 
     // This day of that month, in any year.
     pub fn is_on(self, month: Month, day: u64) -> bool
-        ensures { result ≡ isOn month day self }
+        ensures { result ≡ is_on month day self }
     {
         let own = self.month;
         own.is(month) & (self.day == day)
@@ -76,14 +76,14 @@ impl Date {
 
     // April 1.
     pub fn first_of_gas_year(self) -> bool
-        ensures { result ≡ firstOfGasYear self }
+        ensures { result ≡ first_of_gas_year self }
     {
         self.is_on(Month::APRIL, 1)
     }
 
     // January 31 and March 31.
     pub fn on_confiscation_day(self) -> bool
-        ensures { result ≡ confiscationDay self }
+        ensures { result ≡ confiscation_day self }
     {
         let in_january = self.is_on(Month::JANUARY, 31);
         let in_march = self.is_on(Month::MARCH, 31);
@@ -92,7 +92,7 @@ impl Date {
 
     pub fn last_of_month(self) -> bool
         requires { real self ≡ true }
-        ensures { result ≡ lastOfMonth self }
+        ensures { result ≡ last_of_month self }
     {
         let month = self.month;
         let last = month_length(self.year, month);
@@ -101,7 +101,7 @@ impl Date {
 
     // 31 December 2099, after which there is no date.
     pub fn last_date(self) -> bool
-        ensures { result ≡ lastDate self }
+        ensures { result ≡ last_date self }
     {
         let new_years_eve = self.is_on(Month::DECEMBER, 31);
         (self.year == 2099) & new_years_eve
@@ -109,7 +109,7 @@ impl Date {
 
     pub fn day_after(self) -> Date
         requires { real self ≡ true }
-        ensures { result ≡ dayAfter self }
+        ensures { result ≡ day_after self }
     {
         let month = self.month;
         let ends = self.last_of_month();
@@ -129,7 +129,7 @@ impl Date {
         requires in_years { (2000 ≤ self.year) × (self.year ≤ 2099) }
         requires in_months { (1 ≤ self.month.0) × (self.month.0 ≤ 12) }
         requires in_days { (1 ≤ self.day) × (self.day ≤ 31) }
-        ensures { (result ≡ dayNumber self) × (result < 40000) }
+        ensures { (result ≡ day_number self) × (result < 40000) }
     {
         let m = self.month.0;
         let years = self.year - 2000;

@@ -1,19 +1,19 @@
 // Who is served under the rider, and with how much in bank it may begin.
 ghost use Rattle.std.specs.Prelude.{◌≡◌, ◌≤◌};
-ghost use Rattle.tariff.specs.Enrol.{staysOnFbs, openingTooHigh};
-ghost use Rattle.tariff.specs.Bounds.{mostBcq};
+ghost use Rattle.tariff.specs.Enrol.{stays_on_fbs, opening_too_high};
+ghost use Rattle.tariff.specs.Bounds.{most_bcq};
 
 use crate::amounts::{Dth, Quantity};
 
 pub fn stays_on_fbs(process_only: bool, wishes: bool, mdq: Dth) -> bool
-    ensures { result ≡ staysOnFbs process_only wishes mdq }
+    ensures { result ≡ stays_on_fbs process_only wishes mdq }
 {
     process_only | (mdq.0 < 1000) | ((mdq.0 < 6000) & !wishes)
 }
 
 pub fn opening_too_high(opening: Quantity, bcq: Dth) -> bool
-    requires { bcq.0 ≤ mostBcq }
-    ensures { result ≡ openingTooHigh opening bcq }
+    requires { bcq.0 ≤ most_bcq }
+    ensures { result ≡ opening_too_high opening bcq }
 {
     let most = Quantity::percent(25, bcq);
     most.0 < opening.0

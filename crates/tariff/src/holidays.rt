@@ -1,7 +1,7 @@
 // The days that are named as holidays, and the day of a month on which meters are read.
 ghost use Rattle.std.specs.Prelude.{◌≡◌, true, false, cond, List, [], ◌∷◌, ◌++◌, ◌<◌, ◌≤◌, min, length};
 ghost use Rattle.tariff.specs.Dates.{before, real};
-ghost use Rattle.tariff.specs.Holidays.{noDate, heldDates, storedDates, named, businessDay, measurementDay, onMeasurementDay, leavesOne, holidaysInRange, keptFrom};
+ghost use Rattle.tariff.specs.Holidays.{no_date, held_dates, stored_dates, named, business_day, measurement_day, on_measurement_day, leaves_one, holidays_in_range, kept_from};
 ghost use Rattle.tariff.specs.declared.dates.Date as declared;
 
 use crate::dates::{Date, month_length};
@@ -18,7 +18,7 @@ pub struct Holidays {
 // Three functions stand in the image once each, not once in every caller: that keeps it small (docs/DECISIONS.md, 168).
 impl Holidays {
     pub fn none() -> Holidays
-        ensures { result ≡ storedDates [] }
+        ensures { result ≡ stored_dates [] }
     {
         let nowhere = Date {
             year: 0,
@@ -41,7 +41,7 @@ impl Holidays {
 
     #[inline(never)]
     pub fn names(self, d: Date) -> bool
-        ensures { result ≡ named (heldDates self) d }
+        ensures { result ≡ named (held_dates self) d }
     {
         let n = self.taken();
         let mut found = false;
@@ -58,7 +58,7 @@ impl Holidays {
         requires in_years { (2000 ≤ d.year) × (d.year ≤ 2099) }
         requires in_months { (1 ≤ d.month.0) × (d.month.0 ≤ 12) }
         requires in_days { (1 ≤ d.day) × (d.day ≤ 31) }
-        ensures { result ≡ businessDay (heldDates self) d }
+        ensures { result ≡ business_day (held_dates self) d }
     {
         let weekday = d.weekday();
         if 5 <= weekday {
@@ -72,7 +72,7 @@ impl Holidays {
     pub fn measurement_day(self, year: u64, month: Month) -> u64
         requires in_years { (2000 ≤ year) × (year ≤ 2099) }
         requires in_months { (1 ≤ month.0) × (month.0 ≤ 12) }
-        ensures { result ≡ measurementDay (heldDates self) year month }
+        ensures { result ≡ measurement_day (held_dates self) year month }
     {
         let last = month_length(year, month);
         let mut day = 25;
@@ -89,7 +89,7 @@ impl Holidays {
 
     pub fn on_measurement_day(self, d: Date) -> bool
         requires { real d ≡ true }
-        ensures { result ≡ onMeasurementDay (heldDates self) d }
+        ensures { result ≡ on_measurement_day (held_dates self) d }
     {
         let month = d.month;
         let day = self.measurement_day(d.year, month);
@@ -98,7 +98,7 @@ impl Holidays {
 
     pub fn leaves_one(self, d: Date) -> bool
         requires { real d ≡ true }
-        ensures { result ≡ leavesOne (heldDates self) d }
+        ensures { result ≡ leaves_one (held_dates self) d }
     {
         let month = d.month;
         let day = self.measurement_day(d.year, month);
@@ -106,7 +106,7 @@ impl Holidays {
     }
 
     pub fn in_range(self) -> bool
-        ensures { result ≡ holidaysInRange self }
+        ensures { result ≡ holidays_in_range self }
     {
         let n = self.taken();
         let mut ok = self.count <= 16;
@@ -124,7 +124,7 @@ impl Holidays {
     // With a date in the next place, where the others are stored in theirs.
     fn followed_by(self, d: Date) -> Holidays
         requires { self.count < 16 }
-        ensures { (hs : List declared.Date) → self ≡ storedDates hs → result ≡ storedDates (hs ++ d ∷ []) }
+        ensures { (hs : List declared.Date) → self ≡ stored_dates hs → result ≡ stored_dates (hs ++ d ∷ []) }
     {
         let i = self.count as usize;
         let mut next = self;
@@ -137,7 +137,7 @@ impl Holidays {
     #[inline(never)]
     pub fn naming(self, d: Date) -> Holidays
         requires { self.count < 16 }
-        ensures { result ≡ storedDates (heldDates self ++ d ∷ []) }
+        ensures { result ≡ stored_dates (held_dates self ++ d ∷ []) }
     {
         let n = self.taken();
         let mut next = Holidays::none();
@@ -151,7 +151,7 @@ impl Holidays {
     // With a date in the next place, unless it lies before another.
     fn keeping(self, d: Date, first: Date) -> Holidays
         requires { self.count < 16 }
-        ensures { (hs : List declared.Date) → self ≡ storedDates hs → result ≡ storedDates (hs ++ keptFrom first (d ∷ [])) }
+        ensures { (hs : List declared.Date) → self ≡ stored_dates hs → result ≡ stored_dates (hs ++ kept_from first (d ∷ [])) }
     {
         if d.before(first) {
             return self;
@@ -161,7 +161,7 @@ impl Holidays {
 
     // Without those before a date, stored anew.
     pub fn kept_from(self, first: Date) -> Holidays
-        ensures { result ≡ storedDates (keptFrom first (heldDates self)) }
+        ensures { result ≡ stored_dates (kept_from first (held_dates self)) }
     {
         let n = self.taken();
         let mut next = Holidays::none();

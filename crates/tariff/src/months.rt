@@ -1,6 +1,6 @@
 // A month, of which the rider's percentages are asked. Tables run from April to March, as the gas year does.
 ghost use Rattle.std.specs.Prelude.{◌≡◌, ◌<◌, ◌≤◌, get_or};
-ghost use Rattle.tariff.specs.Months.{sameMonth, gasMonth, winter, minimum, maximum, mmbq, withdrawalMaximum, withdrawalMinimum};
+ghost use Rattle.tariff.specs.Months.{same_month, gas_month, winter, minimum, maximum, mmbq, withdrawal_maximum, withdrawal_minimum};
 
 // By its number in the calendar year. Other numbers than 1 to 12 are no date's month.
 #[repr(C)]
@@ -42,21 +42,21 @@ impl Month {
     pub const DECEMBER: Month = Month(12);
 
     pub fn is(self, other: Month) -> bool
-        ensures { result ≡ sameMonth self other }
+        ensures { result ≡ same_month self other }
     {
         self.0 == other.0
     }
 
     // The place in the gas year, April 0 to March 11.
     pub fn gas_month(self) -> usize
-        ensures { (result ≡ gasMonth self) × (result < 12) }
+        ensures { (result ≡ gas_month self) × (result < 12) }
     {
         ((self.0 % 12 + 8) % 12) as usize
     }
 
     // What a table of the gas year has for this month.
     fn percent_in(self, table: [u8; 12]) -> u64
-        ensures { result ≡ get_or table (gasMonth self) 0 }
+        ensures { result ≡ get_or table (gas_month self) 0 }
     {
         let at = self.gas_month();
         wide(table[at])
@@ -95,7 +95,7 @@ impl Month {
 
     // The most that a month may take from a bank, November to March.
     pub fn withdrawal_maximum(self) -> u64
-        ensures value { result ≡ withdrawalMaximum self }
+        ensures value { result ≡ withdrawal_maximum self }
         ensures bounded { result ≤ 102 }
     {
         self.percent_in(WITHDRAWAL_MAXIMUM)
@@ -103,7 +103,7 @@ impl Month {
 
     // The least that February and March must take from a bank.
     pub fn withdrawal_minimum(self) -> u64
-        ensures value { result ≡ withdrawalMinimum self }
+        ensures value { result ≡ withdrawal_minimum self }
         ensures bounded { result ≤ 102 }
     {
         self.percent_in(WITHDRAWAL_MINIMUM)

@@ -1,7 +1,7 @@
 // The step of an account's MDQ, in factors of 3,000 Dth a day.
 ghost use Rattle.std.specs.Prelude.{◌≡◌, ◌≤◌};
-ghost use Rattle.tariff.specs.Steps.{stepOf, firstStep, isOver, isUnder, crosses, measured, settledStep, falls};
-ghost use Rattle.tariff.specs.Bounds.{mostMdq};
+ghost use Rattle.tariff.specs.Steps.{step_of, first_step, is_over, is_under, crosses, measured, settled_step, falls};
+ghost use Rattle.tariff.specs.Bounds.{most_mdq};
 
 use crate::amounts::Dth;
 use crate::choice::{choose, larger};
@@ -19,8 +19,8 @@ pub struct Step {
 
 // MDQ / 3,000, rounded up.
 fn step_of(mdq: Dth) -> u64
-    requires { mdq.0 ≤ mostMdq }
-    ensures value { result ≡ stepOf mdq }
+    requires { mdq.0 ≤ most_mdq }
+    ensures value { result ≡ step_of mdq }
     ensures bounded { result ≤ 100 }
 {
     (mdq.0 + 2999) / 3000
@@ -28,8 +28,8 @@ fn step_of(mdq: Dth) -> u64
 
 impl Step {
     pub fn first(mdq: Dth) -> Step
-        requires { mdq.0 ≤ mostMdq }
-        ensures value { result ≡ firstStep mdq }
+        requires { mdq.0 ≤ most_mdq }
+        ensures value { result ≡ first_step mdq }
         ensures bounded { (result.k ≤ 100) × (result.pending ≤ 100) }
     {
         let k = step_of(mdq);
@@ -43,21 +43,21 @@ impl Step {
 
     // The four tests compare steps and not 3,000 × k, so that no k of a ledger handed in can overflow them.
     fn is_over(self, m: Dth) -> bool
-        requires { m.0 ≤ mostMdq }
-        ensures { result ≡ isOver self m }
+        requires { m.0 ≤ most_mdq }
+        ensures { result ≡ is_over self m }
     {
         self.k < (m.0 + 2999) / 3000
     }
 
     fn is_under(self, m: Dth) -> bool
-        requires { m.0 ≤ mostMdq }
-        ensures { result ≡ isUnder self m }
+        requires { m.0 ≤ most_mdq }
+        ensures { result ≡ is_under self m }
     {
         m.0 / 3000 + 1 < self.k
     }
 
     fn crosses(self, m: Dth) -> bool
-        requires { m.0 ≤ mostMdq }
+        requires { m.0 ≤ most_mdq }
         ensures { result ≡ crosses self m }
     {
         let third_over = self.is_over(m) & (2 <= self.over);
@@ -69,7 +69,7 @@ impl Step {
 
     // What a measured MDQ makes of the step.
     pub fn measured(self, m: Dth) -> Step
-        requires { (m.0 ≤ mostMdq) × (self.over ≤ 2) × (self.under ≤ 2) }
+        requires { (m.0 ≤ most_mdq) × (self.over ≤ 2) × (self.under ≤ 2) }
         ensures { result ≡ measured self m }
     {
         let crosses = self.crosses(m);
@@ -86,7 +86,7 @@ impl Step {
 
     // The month's end.
     pub fn settled(self) -> Step
-        ensures { result ≡ settledStep self }
+        ensures { result ≡ settled_step self }
     {
         Step {
             k: self.pending,

@@ -1,7 +1,7 @@
 // The terms in force, and the capacity that a step has under them.
 ghost use Rattle.std.specs.Prelude.{◌≡◌, true, ◌≤◌};
-ghost use Rattle.tariff.specs.Terms.{termsInRange, mddqOf, bcqOf, capacityOf};
-ghost use Rattle.tariff.specs.Bounds.{mostBcq, mostMdq};
+ghost use Rattle.tariff.specs.Terms.{terms_in_range, mddq_of, bcq_of, capacity_of};
+ghost use Rattle.tariff.specs.Bounds.{most_bcq, most_mdq};
 
 use crate::amounts::Dth;
 use crate::bounds::{MOST_DESIGN_DAY, MOST_NO_NOTICE, MOST_RATE, MOST_RETAINAGE};
@@ -32,7 +32,7 @@ pub struct Capacity {
 
 impl Terms {
     pub fn in_range(self) -> bool
-        ensures { result ≡ termsInRange self }
+        ensures { result ≡ terms_in_range self }
     {
         let nn = self.no_notice.0;
         let dd = self.design_day.0;
@@ -47,25 +47,25 @@ impl Terms {
     }
 
     fn mddq(self, k: u64) -> Dth
-        requires { (termsInRange self ≡ true) × (k ≤ 100) }
-        ensures value { result ≡ mddqOf self k }
-        ensures bounded { result.0 ≤ mostMdq }
+        requires { (terms_in_range self ≡ true) × (k ≤ 100) }
+        ensures value { result ≡ mddq_of self k }
+        ensures bounded { result.0 ≤ most_mdq }
     {
         Dth(3000 * k * self.no_notice.0 / self.design_day.0)
     }
 
     fn bcq(self, mddq: Dth) -> Dth
-        requires { (termsInRange self ≡ true) × (mddq.0 ≤ mostMdq) }
-        ensures value { result ≡ bcqOf self mddq }
-        ensures bounded { result.0 ≤ mostBcq }
+        requires { (terms_in_range self ≡ true) × (mddq.0 ≤ most_mdq) }
+        ensures value { result ≡ bcq_of self mddq }
+        ensures bounded { result.0 ≤ most_bcq }
     {
         Dth(mddq.0 * self.storage.0 / self.no_notice.0)
     }
 
     pub fn capacity(self, k: u64) -> Capacity
-        requires { (termsInRange self ≡ true) × (k ≤ 100) }
-        ensures value { result ≡ capacityOf self k }
-        ensures bounded { (result.mddq.0 ≤ mostMdq) × (result.bcq.0 ≤ mostBcq) }
+        requires { (terms_in_range self ≡ true) × (k ≤ 100) }
+        ensures value { result ≡ capacity_of self k }
+        ensures bounded { (result.mddq.0 ≤ most_mdq) × (result.bcq.0 ≤ most_bcq) }
     {
         let mddq = self.mddq(k);
         let bcq = self.bcq(mddq);

@@ -1,31 +1,31 @@
 -- The entries that an archive holds are a list like any other, so what the ledger shows of every list holds of them.
 use mathlib.Core.Path.{ap}
 use Rattle.ledger.specs.declared.panels.Panel.{Panel}
-use Rattle.history.proofs.Histories.{banks-add-up, panel-adds-up, debts-add-up, days-add-up, striking-changes-nothing}
-use Rattle.archive.specs.Reading.{isNew}
-use Rattle.archive.specs.Replay.{freshFor, entriesIn, replayed, figuresOf, BanksAddUp, FigureAddsUp, DebtsAddUp, DaysAddUp, StrikingChangesNothing}
+use Rattle.history.proofs.Histories.{banks_add_up, panel_adds_up, debts_add_up, days_add_up, striking_changes_nothing}
+use Rattle.archive.specs.Reading.{is_new}
+use Rattle.archive.specs.Replay.{fresh_for, entries_in, replayed, figures_of, BanksAddUp, FigureAddsUp, DebtsAddUp, DaysAddUp, StrikingChangesNothing}
 use Rattle.archive.proofs.every_archive.Statement.{statement}
 use Rattle.archive.proofs.every_archive.Tie as tie
 
 banks : BanksAddUp
-unfolding replayed freshFor
-banks a = banks-add-up (isNew a) (entriesIn a)
+unfolding replayed fresh_for
+banks a = banks_add_up (is_new a) (entries_in a)
 
 figure : FigureAddsUp
-unfolding replayed freshFor figuresOf
-figure a = ap (λ (p : Panel). p.figure) (panel-adds-up (isNew a) (entriesIn a))
+unfolding replayed fresh_for figures_of
+figure a = ap (λ (p : Panel). p.figure) (panel_adds_up (is_new a) (entries_in a))
 
 debts : DebtsAddUp
-unfolding replayed freshFor
-debts a = debts-add-up (isNew a) (entriesIn a)
+unfolding replayed fresh_for
+debts a = debts_add_up (is_new a) (entries_in a)
 
 days : DaysAddUp
-unfolding replayed freshFor
-days a = days-add-up (isNew a) (entriesIn a)
+unfolding replayed fresh_for
+days a = days_add_up (is_new a) (entries_in a)
 
 struck : StrikingChangesNothing
-unfolding replayed freshFor
-struck a = striking-changes-nothing (isNew a) (entriesIn a)
+unfolding replayed fresh_for
+struck a = striking_changes_nothing (is_new a) (entries_in a)
 
 pub every_archive_spec : {M : Type 1} → statement M
 every_archive_spec = tie.close (tie.spec (λ c. (banks, (figure, (debts, (days, struck))))))

@@ -4,14 +4,14 @@ use Prim.Native.Nat.{ℕ}
 use mathlib.Core.Bool.{Bool, true}
 use mathlib.Core.List.{List}
 use mathlib.Core.Path.{◌≡◌}
-use Rattle.archive.specs.Reading.{isNew, opensAs}
-use Rattle.archive.proofs.Headers.{too-short}
+use Rattle.archive.specs.Reading.{is_new, opens_as}
+use Rattle.archive.proofs.Headers.{too_short}
 use Rattle.archive.proofs.is_new.Statement.{statement}
 use Rattle.archive.proofs.is_new.Tie as tie
 
-asked : (a : List ℕ) (r : Bool) → r ≡ opensAs true a → r ≡ isNew a
-unfolding isNew
+asked : (a : List ℕ) (r : Bool) → r ≡ opens_as true a → r ≡ is_new a
+unfolding is_new
 asked a r e = e
 
 pub is_new_spec : {M : Type 1} → statement M
-is_new_spec = tie.close (tie.spec (λ c. search too-short) (λ c κs. search rules) (λ c. search asked))
+is_new_spec = tie.close (tie.spec (λ c. search too_short) (λ c κs. search rules) (λ c. search asked))

@@ -6,37 +6,37 @@ use Prim.Native.Nat.{ℕ, ◌+◌, ◌*◌, ◌<◌, ◌≤◌}
 use mathlib.Core.List.{List}
 use mathlib.Core.Path.{◌≡◌}
 use lib.ListN.{length}
-use Rattle.ledger.specs.Entries.{wordAt}
-use Rattle.archive.specs.Reading.{sectionCount, checked, pairAt, nowhere, placeOf}
+use Rattle.ledger.specs.Entries.{word_at}
+use Rattle.archive.specs.Reading.{section_count, checked, pair_at, nowhere, place_of}
 use Rattle.archive.specs.Structs.{Checked, Place}
-use Rattle.archive.proofs.Pairs.{pair-held}
+use Rattle.archive.proofs.Pairs.{pair_held}
 use Rattle.archive.proofs.Headers.{Measured}
-use Rattle.archive.proofs.Acceptance.{checked-tells, accepted-sizes}
+use Rattle.archive.proofs.Acceptance.{checked_tells, accepted_sizes}
 use Rattle.archive.proofs.place.Statement.{statement}
 use Rattle.archive.proofs.place.Tie as tie
 
-nowhere-within : (a : List ℕ) (number index : ℕ) (r : Place) → r ≡ nowhere number index → r.start + r.length ≤ length a
+nowhere_within : (a : List ℕ) (number index : ℕ) (r : Place) → r ≡ nowhere number index → r.start + r.length ≤ length a
 unfolding nowhere
-nowhere-within a number index r e = rw e (omega arith)
+nowhere_within a number index r e = rw e (omega arith)
 
 module _ (a : List ℕ) (i : ℕ) (c : Checked) (p : c ≡ checked a) where
-  refused : (c.number ≡ 0 → ⊥) → (r : Place) → r ≡ nowhere c.number c.index → r ≡ placeOf a i
-  unfolding placeOf
+  refused : (c.number ≡ 0 → ⊥) → (r : Place) → r ≡ nowhere c.number c.index → r ≡ place_of a i
+  unfolding place_of
   refused d r e = cc (ne_eqb c.number 0 d)
 
-  module _ (z : c.number ≡ 0) (n : ℕ) (q : n ≡ sectionCount a) where
-    none-such : n ≤ i → (r : Place) → r ≡ nowhere 13 0 → r ≡ placeOf a i
-    unfolding placeOf
-    none-such h r e = cc (le-ltb i n h)
+  module _ (z : c.number ≡ 0) (n : ℕ) (q : n ≡ section_count a) where
+    none_such : n ≤ i → (r : Place) → r ≡ nowhere 13 0 → r ≡ place_of a i
+    unfolding place_of
+    none_such h r e = cc (le-ltb i n h)
 
-    module _ (h : i < n) (o l : ℕ) (e : o ≡ wordAt a (8 + 8 * i)) (f : l ≡ wordAt a (12 + 8 * i)) where
-      found : record { number = 0; index = 0; start = o; length = l } ≡ placeOf a i
-      unfolding placeOf pairAt
+    module _ (h : i < n) (o l : ℕ) (e : o ≡ word_at a (8 + 8 * i)) (f : l ≡ word_at a (12 + 8 * i)) where
+      found : record { number = 0; index = 0; start = o; length = l } ≡ place_of a i
+      unfolding place_of pair_at
       found = cc (lt-ltb i n h)
 
       within : o + l ≤ length a
-      unfolding pairAt
-      within = rw (e, f) (pair-held a i (checked-tells a (cc)).directed (omega arith)).within
+      unfolding pair_at
+      within = rw (e, f) (pair_held a i (checked_tells a (cc)).directed (omega arith)).within
 
 module _ (c : tie.After-check-c) (z : c.check-c.result.number ≡ 0) where
   start : tie.Start
@@ -44,7 +44,7 @@ module _ (c : tie.After-check-c) (z : c.check-c.result.number ≡ 0) where
 
   sizes : Measured start.args.archive.now
   unfolding start
-  sizes = search accepted-sizes
+  sizes = search accepted_sizes
 
 pub place_spec : {M : Type 1} → statement M
 unfolding start
@@ -53,10 +53,10 @@ place_spec =
     (tie.spec
     (λ c κs. search rules)
     (λ c κs. search rules)
-    (λ c. (search refused, search nowhere-within))
+    (λ c. (search refused, search nowhere_within))
     (λ c κs. omega (arith, sizes (search) (search)))
     (λ c κs. search rules)
-    (λ c. (search none-such, search nowhere-within))
+    (λ c. (search none_such, search nowhere_within))
     (λ c. omega (arith, sizes (search) (search)))
     (λ c. omega (arith, sizes (search) (search)))
     (λ c κs. omega (arith, sizes (search) (search)))

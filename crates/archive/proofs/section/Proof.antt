@@ -6,12 +6,12 @@ use mathlib.Core.List.{List}
 use mathlib.Core.Path.{◌≡◌}
 use lib.ListN.{take, drop}
 use Rattle.archive.specs.Structs.{Place}
-use Rattle.archive.specs.Reading.{placeOf, sectionAt}
+use Rattle.archive.specs.Reading.{place_of, section_at}
 use Rattle.archive.proofs.section.Statement.{statement}
 use Rattle.archive.proofs.section.Tie as tie
 
-part : (a : List ℕ) (i : ℕ) (p : Place) → p ≡ placeOf a i → take (p.start + p.length - p.start) (drop p.start a) ≡ sectionAt a i
-unfolding sectionAt
+part : (a : List ℕ) (i : ℕ) (p : Place) → p ≡ place_of a i → take (p.start + p.length - p.start) (drop p.start a) ≡ section_at a i
+unfolding section_at
 part a i p e = cc (add-sub_cancel_left p.start p.length)
 
 pub section_spec : {M : Type 1} → statement M

@@ -7,8 +7,8 @@ use mathlib.Core.List.{List, ◌++◌}
 use mathlib.Core.Path.{◌≡◌}
 use lib.ListN.{length, drop}
 use Rattle.archive.specs.Structs.{Written}
-use Rattle.archive.specs.Layout.{archiveOf}
-use Rattle.archive.specs.Writing.{written, outputAfter}
+use Rattle.archive.specs.Layout.{archive_of}
+use Rattle.archive.specs.Writing.{written, output_after}
 use Rattle.archive.proofs.write.Statement.{statement}
 use Rattle.archive.proofs.write.Tie as tie
 
@@ -16,12 +16,12 @@ module _ (new : Bool) (list out : List ℕ) (w : Written) (p : w ≡ written new
   accepted : w.number ≡ 0 → (written new list (length out)).number ≡ 0
   accepted z = cc
 
-  put : w.number ≡ 0 → (after : List ℕ) → after ≡ archiveOf new list ++ drop (length (archiveOf new list)) out → after ≡ outputAfter new list out
-  unfolding outputAfter
+  put : w.number ≡ 0 → (after : List ℕ) → after ≡ archive_of new list ++ drop (length (archive_of new list)) out → after ≡ output_after new list out
+  unfolding output_after
   put z after e = cc
 
-  untouched : (w.number ≡ 0 → ⊥) → out ≡ outputAfter new list out
-  unfolding outputAfter
+  untouched : (w.number ≡ 0 → ⊥) → out ≡ output_after new list out
+  unfolding output_after
   untouched d = cc (ne_eqb w.number 0 d)
 
 pub write_spec : {M : Type 1} → statement M

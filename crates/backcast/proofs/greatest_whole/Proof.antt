@@ -1,23 +1,23 @@
 -- Each answer is the definition's by its two tests; the quotient lies where a greatest whole number must, and two of these are not above each other.
 use native.Mathlib.Nat.{le_antisymm}
-use Rattle.backcast.specs.Answers.{backCast, wholePart}
+use Rattle.backcast.specs.Answers.{back_cast, whole_part}
 use Rattle.backcast.specs.GreatestWhole.{EveryAnswer, OnlyOne}
-use Rattle.backcast.specs.Load.{loadOf}
-use Rattle.backcast.proofs.WholeParts.{greatest, quantity, whole-le}
+use Rattle.backcast.specs.Load.{load_of}
+use Rattle.backcast.proofs.WholeParts.{greatest, quantity, whole_le}
 use Rattle.backcast.proofs.greatest_whole.Statement.{statement}
 use Rattle.backcast.proofs.greatest_whole.Tie as tie
 
-every-answer : EveryAnswer
-unfolding backCast
-every-answer curve f =
+every_answer : EveryAnswer
+unfolding back_cast
+every_answer curve f =
     record {
-      noNumbers = λ n. rw n;
-      noQuantity = λ n q. rw (n, q);
-      quantity = λ n q. let is = quantity (loadOf curve f) q in (wholePart (loadOf curve f), (rw (n, q), whole-le (loadOf curve f) is, greatest (loadOf curve f) is));
+      no_numbers = λ n. rw n;
+      no_quantity = λ n q. rw (n, q);
+      quantity = λ n q. let is = quantity (load_of curve f) q in (whole_part (load_of curve f), (rw (n, q), whole_le (load_of curve f) is, greatest (load_of curve f) is));
     }
 
-only-one : OnlyOne
-only-one x m n g h = le_antisymm (h.noGreater m g.notAbove) (g.noGreater n h.notAbove)
+only_one : OnlyOne
+only_one x m n g h = le_antisymm (h.no_greater m g.not_above) (g.no_greater n h.not_above)
 
 pub greatest_whole_spec : {M : Type 1} → statement M
-greatest_whole_spec = tie.close (tie.spec (λ c. (every-answer, only-one)))
+greatest_whole_spec = tie.close (tie.spec (λ c. (every_answer, only_one)))

@@ -1,26 +1,26 @@
 -- Each case is computed: the definitions, opened, give the answer that the case states.
 use mathlib.Core.Path.{refl}
 use lib.Ieee as Ieee
-use Rattle.backcast.specs.Doubles.{isNumber, numerator, denominator}
-use Rattle.backcast.specs.Load.{allNumbers, loadOf}
-use Rattle.backcast.specs.Answers.{isQuantity, wholePart, accepted, refused, backCast}
+use Rattle.backcast.specs.Doubles.{is_number, numerator, denominator}
+use Rattle.backcast.specs.Load.{all_numbers, load_of}
+use Rattle.backcast.specs.Answers.{is_quantity, whole_part, accepted, refused, back_cast}
 use Rattle.backcast.specs.WorkedCases.{WorkedCases}
 use Rattle.backcast.proofs.worked_cases.Statement.{statement}
 use Rattle.backcast.proofs.worked_cases.Tie as tie
 
 all : WorkedCases
-unfolding Ieee.lt Ieee.add Ieee.sub Ieee.mul Ieee.round isNumber numerator denominator allNumbers loadOf isQuantity wholePart accepted refused backCast
+unfolding Ieee.lt Ieee.add Ieee.sub Ieee.mul Ieee.round is_number numerator denominator all_numbers load_of is_quantity whole_part accepted refused back_cast
 all =
     record {
       usual = (refl, refl, refl);
       turning = (refl, refl, refl);
       down = (refl, refl, refl, refl);
-      belowNothing = (refl, refl, refl, refl, refl);
+      below_nothing = (refl, refl, refl, refl, refl);
       most = (refl, refl, refl);
-      roundedEach = (refl, refl);
-      roundedFirst = refl;
-      tooLarge = (refl, refl, refl, refl, refl);
-      noNumbers = (refl, refl, refl, refl, refl, refl, refl, refl);
+      rounded_each = (refl, refl);
+      rounded_first = refl;
+      too_large = (refl, refl, refl, refl, refl);
+      no_numbers = (refl, refl, refl, refl, refl, refl, refl, refl);
     }
 
 pub worked_cases_spec : {M : Type 1} → statement M

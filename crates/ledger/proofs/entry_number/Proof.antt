@@ -6,19 +6,19 @@ use mathlib.Core.Bool.{Bool}
 use mathlib.Core.List.{List}
 use mathlib.Core.Path.{◌≡◌}
 use lib.ListN.{length}
-use Rattle.ledger.specs.Entries.{entryOf}
-use Rattle.ledger.specs.Forms.{entryNumber, formNumber}
+use Rattle.ledger.specs.Entries.{entry_of}
+use Rattle.ledger.specs.Forms.{entry_number, form_number}
 use Rattle.ledger.specs.Structs.{Entry}
 use Rattle.ledger.proofs.entry_number.Statement.{statement}
 use Rattle.ledger.proofs.entry_number.Tie as tie
 
 module _ (new : Bool) (b : List ℕ) where
-  otherwise : (length b ≡ 32 → ⊥) → 1 ≡ formNumber new b
-  unfolding formNumber
+  otherwise : (length b ≡ 32 → ⊥) → 1 ≡ form_number new b
+  unfolding form_number
   otherwise d = cc (ne_eqb (length b) 32 d)
 
-  whole : length b ≡ 32 → (e : Entry) (n : ℕ) → e ≡ entryOf b → n ≡ entryNumber new e → n ≡ formNumber new b
-  unfolding formNumber
+  whole : length b ≡ 32 → (e : Entry) (n : ℕ) → e ≡ entry_of b → n ≡ entry_number new e → n ≡ form_number new b
+  unfolding form_number
   whole h e n p q = cc (eq-eqb (length b) 32 h)
 
 pub entry_number_spec : {M : Type 1} → statement M

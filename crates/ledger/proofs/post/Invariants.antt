@@ -2,8 +2,8 @@
 use mathlib.Core.Path.{◌≡◌}
 use mathlib.Core.Bool.{◌&&◌}
 use lib.ListN.{drop}
-use Rattle.ledger.specs.Ranges.{accountInRange, everyAccount, inRange}
+use Rattle.ledger.specs.Ranges.{account_in_range, every_account, in_range}
 use Rattle.ledger.proofs.post.Given as goal
 
 abbrev pub invariant-loop-k : goal.invariant-loop-k
-invariant-loop-k l = l.fits && everyAccount accountInRange (drop l.k l.ledger.accounts) ≡ inRange l.ledger
+invariant-loop-k l = l.fits && every_account account_in_range (drop l.k l.ledger.accounts) ≡ in_range l.ledger

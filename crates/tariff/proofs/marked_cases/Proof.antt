@@ -1,22 +1,22 @@
 -- Each case is computed: the definitions, opened, give the numbers that the case states.
 use mathlib.Core.Path.{refl}
-use Rattle.tariff.specs.Amounts.{positivePart, inward, opposite, less, below, gap, percent}
-use Rattle.tariff.specs.Months.{february, march, april, november, december, sameMonth, gasMonth, winter, mmbq, minimum}
-use Rattle.tariff.specs.Dates.{divides, leap, lengths, monthLength, total, dayNumber, weekday}
-use Rattle.tariff.specs.Holidays.{businessDay, firstBusinessDay, measurementDay, named}
-use Rattle.tariff.specs.Terms.{termsInRange, mddqOf, bcqOf, capacityOf}
-use Rattle.tariff.specs.Enrol.{staysOnFbs, openingTooHigh}
-use Rattle.tariff.specs.Delivery.{retained, daysOfInjection, breaksV1, shareOf}
-use Rattle.tariff.specs.Steps.{stepOf, isOver, isUnder, crosses, measured}
-use Rattle.tariff.specs.Closing.{breaksV7, cashOf, excessOver, carryOf}
-use Rattle.tariff.specs.Bill.{cashInCharge}
+use Rattle.tariff.specs.Amounts.{positive_part, inward, opposite, less, below, gap, percent}
+use Rattle.tariff.specs.Months.{february, march, april, november, december, same_month, gas_month, winter, mmbq, minimum}
+use Rattle.tariff.specs.Dates.{divides, leap, lengths, month_length, total, day_number, weekday}
+use Rattle.tariff.specs.Holidays.{business_day, first_business_day, measurement_day, named}
+use Rattle.tariff.specs.Terms.{terms_in_range, mddq_of, bcq_of, capacity_of}
+use Rattle.tariff.specs.Enrol.{stays_on_fbs, opening_too_high}
+use Rattle.tariff.specs.Delivery.{retained, days_of_injection, breaks_v1, share_of}
+use Rattle.tariff.specs.Steps.{step_of, is_over, is_under, crosses, measured}
+use Rattle.tariff.specs.Closing.{breaks_v7, cash_of, excess_over, carry_of}
+use Rattle.tariff.specs.Bill.{cash_in_charge}
 use Rattle.tariff.specs.MarkedCases.{MarkedCases}
 use Rattle.tariff.proofs.marked_cases.Statement.{statement}
 use Rattle.tariff.proofs.marked_cases.Tie as tie
 
-all-nine : MarkedCases
-unfolding positivePart inward opposite less below gap percent february march april november december sameMonth gasMonth winter mmbq minimum divides leap lengths monthLength total dayNumber weekday named businessDay firstBusinessDay measurementDay termsInRange mddqOf bcqOf capacityOf staysOnFbs openingTooHigh retained daysOfInjection breaksV1 shareOf stepOf isOver isUnder crosses measured breaksV7 cashOf excessOver carryOf cashInCharge
-all-nine =
+all_nine : MarkedCases
+unfolding positive_part inward opposite less below gap percent february march april november december same_month gas_month winter mmbq minimum divides leap lengths month_length total day_number weekday named business_day first_business_day measurement_day terms_in_range mddq_of bcq_of capacity_of stays_on_fbs opening_too_high retained days_of_injection breaks_v1 share_of step_of is_over is_under crosses measured breaks_v7 cash_of excess_over carry_of cash_in_charge
+all_nine =
     record {
       header = (refl, refl, refl);
       case1 = (refl, refl, refl, refl);
@@ -32,7 +32,7 @@ all-nine =
     }
 
 returns : tie.Need-returns
-returns c = all-nine
+returns c = all_nine
 
 pub marked_cases_spec : {M : Type 1} → statement M
 marked_cases_spec = tie.close (tie.spec returns)

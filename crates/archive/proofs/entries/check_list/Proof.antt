@@ -7,10 +7,10 @@ use mathlib.Core.Bool.{Bool}
 use mathlib.Core.List.{List, map}
 use mathlib.Core.Path.{◌≡◌, refl}
 use lib.ListN.{length, drop, take}
-use Rattle.ledger.specs.Forms.{formNumber}
-use Rattle.archive.specs.Writing.{listChecked}
-use Rattle.archive.specs.Entries.{entriesOf, firstEntries, finding, firstRefusal}
-use Rattle.archive.proofs.EntryLists.{entries-next, entries-none}
+use Rattle.ledger.specs.Forms.{form_number}
+use Rattle.archive.specs.Writing.{list_checked}
+use Rattle.archive.specs.Entries.{entries_of, first_entries, finding, first_refusal}
+use Rattle.archive.proofs.EntryLists.{entries_next, entries_none}
 use Rattle.archive.proofs.entries.check_list.Statement.{statement}
 use Rattle.archive.proofs.entries.check_list.Tie as tie
 
@@ -18,39 +18,39 @@ use Rattle.archive.proofs.entries.check_list.Tie as tie
 record Rest (new : Bool) (s : List ℕ) (n k : ℕ) : Type 0 where
   within : k ≤ n
   all : n ≡ length s / 32
-  same : firstRefusal k (map (formNumber new) (firstEntries (n - k) (drop (32 * k) s))) ≡ listChecked new s
+  same : first_refusal k (map (form_number new) (first_entries (n - k) (drop (32 * k) s))) ≡ list_checked new s
 
-abbrev invariant-loop : tie.invariant-loop-k
-invariant-loop new list n k₀ k = Rest new list n k
+abbrev invariant_loop : tie.invariant-loop-k
+invariant_loop new list n k₀ k = Rest new list n k
 
-abbrev decreases-loop : tie.decreases-loop-k
-decreases-loop new list n k₀ k = n - k
+abbrev decreases_loop : tie.decreases-loop-k
+decreases_loop new list n k₀ k = n - k
 
-at-first : (new : Bool) (s : List ℕ) → Rest new s (length s / 32) 0
-unfolding entriesOf listChecked
-at-first new s = let z : length s / 32 - 0 ≡ length s / 32 = omega arith in record { within = omega arith; all = refl; same = rw z }
+at_first : (new : Bool) (s : List ℕ) → Rest new s (length s / 32) 0
+unfolding entries_of list_checked
+at_first new s = let z : length s / 32 - 0 ≡ length s / 32 = omega arith in record { within = omega arith; all = refl; same = rw z }
 
 module _ (new : Bool) (s : List ℕ) (n k : ℕ) (r : Rest new s n k) where
-  none-refused : n ≤ k → record { number = 0; index = 0 } ≡ listChecked new s
-  unfolding finding firstRefusal
-  none-refused h = rw (entries-none n k (drop (32 * k) s) h) at r.same
+  none_refused : n ≤ k → record { number = 0; index = 0 } ≡ list_checked new s
+  unfolding finding first_refusal
+  none_refused h = rw (entries_none n k (drop (32 * k) s) h) at r.same
 
-  module _ (more : k < n) (m : ℕ) (e : m ≡ formNumber new (take (32 * k + 32 - 32 * k) (drop (32 * k) s))) where
-    refused : (m ≡ 0 → ⊥) → record { number = m; index = k } ≡ listChecked new s
-    unfolding finding firstRefusal
-    refused d = cc (rw (entries-next n k s more) at r.same, ne_eqb m 0 d)
+  module _ (more : k < n) (m : ℕ) (e : m ≡ form_number new (take (32 * k + 32 - 32 * k) (drop (32 * k) s))) where
+    refused : (m ≡ 0 → ⊥) → record { number = m; index = k } ≡ list_checked new s
+    unfolding finding first_refusal
+    refused d = cc (rw (entries_next n k s more) at r.same, ne_eqb m 0 d)
 
     passed : m ≡ 0 → (j : ℕ) → j ≡ k + 1 → Rest new s n j
-    unfolding firstRefusal
-    passed z j i = rw i (record { within = omega arith; all = r.all; same = cc (rw (entries-next n k s more) at r.same) })
+    unfolding first_refusal
+    passed z j i = rw i (record { within = omega arith; all = r.all; same = cc (rw (entries_next n k s more) at r.same) })
 
 pub check_list_spec : {M : Type 1} → statement M
 check_list_spec =
     tie.close
     (tie.spec
-    invariant-loop
-    decreases-loop
-    (λ c. search at-first)
+    invariant_loop
+    decreases_loop
+    (λ c. search at_first)
     (λ c. search rules)
     (λ c. search rules)
     (λ c. search rules)
@@ -61,4 +61,4 @@ check_list_spec =
     (λ c. search rules)
     (λ c. search rules)
     (λ c. search passed)
-    (λ c. search none-refused))
+    (λ c. search none_refused))

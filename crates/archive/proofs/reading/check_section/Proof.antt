@@ -8,10 +8,10 @@ use mathlib.Core.List.{List}
 use mathlib.Core.Path.{◌≡◌, refl}
 use lib.Dec.{eqb}
 use lib.ListN.{length, take, drop}
-use Rattle.archive.specs.Reading.{numberIn, numbersIn}
-use Rattle.archive.specs.Entries.{entriesOf, firstEntries, finding, firstRefusal}
-use Rattle.archive.proofs.Numbering.{numbers-next}
-use Rattle.archive.proofs.EntryLists.{entries-none}
+use Rattle.archive.specs.Reading.{number_in, numbers_in}
+use Rattle.archive.specs.Entries.{entries_of, first_entries, finding, first_refusal}
+use Rattle.archive.proofs.Numbering.{numbers_next}
+use Rattle.archive.proofs.EntryLists.{entries_none}
 use Rattle.archive.proofs.reading.check_section.Statement.{statement}
 use Rattle.archive.proofs.reading.check_section.Tie as tie
 
@@ -19,44 +19,44 @@ use Rattle.archive.proofs.reading.check_section.Tie as tie
 record Rest (new : Bool) (s : List ℕ) (first : ℕ) (last : Bool) (n k : ℕ) : Type 0 where
   within : k ≤ n
   all : n ≡ length s / 32
-  same : firstRefusal (first + k) (numbersIn new last (firstEntries (n - k) (drop (32 * k) s))) ≡ firstRefusal first (numbersIn new last (entriesOf s))
+  same : first_refusal (first + k) (numbers_in new last (first_entries (n - k) (drop (32 * k) s))) ≡ first_refusal first (numbers_in new last (entries_of s))
 
-abbrev invariant-loop : tie.invariant-loop-k
-invariant-loop new section first last n k₀ k = Rest new section first last n k
+abbrev invariant_loop : tie.invariant-loop-k
+invariant_loop new section first last n k₀ k = Rest new section first last n k
 
-abbrev decreases-loop : tie.decreases-loop-k
-decreases-loop new section first last n k₀ k = n - k
+abbrev decreases_loop : tie.decreases-loop-k
+decreases_loop new section first last n k₀ k = n - k
 
-at-first : (new : Bool) (s : List ℕ) (first : ℕ) (last : Bool) → Rest new s first last (length s / 32) 0
-unfolding entriesOf
-at-first new s first last =
+at_first : (new : Bool) (s : List ℕ) (first : ℕ) (last : Bool) → Rest new s first last (length s / 32) 0
+unfolding entries_of
+at_first new s first last =
     let z : length s / 32 - 0 ≡ length s / 32 = omega arith in
     let i : first + 0 ≡ first = omega arith in
     record { within = omega arith; all = refl; same = rw (z, i) }
 
 module _ (new : Bool) (s : List ℕ) (first : ℕ) (last : Bool) (n k : ℕ) (r : Rest new s first last n k) where
-  none-refused : n ≤ k → record { number = 0; index = 0 } ≡ firstRefusal first (numbersIn new last (entriesOf s))
-  unfolding finding firstRefusal numbersIn
-  none-refused h = rw (entries-none n k (drop (32 * k) s) h) at r.same
+  none_refused : n ≤ k → record { number = 0; index = 0 } ≡ first_refusal first (numbers_in new last (entries_of s))
+  unfolding finding first_refusal numbers_in
+  none_refused h = rw (entries_none n k (drop (32 * k) s) h) at r.same
 
-  module _ (more : k < n) (m : ℕ) (e : m ≡ numberIn new (eqb (k + 1) n) last (take (32 * k + 32 - 32 * k) (drop (32 * k) s))) where
-    refused : (m ≡ 0 → ⊥) → record { number = m; index = first + k } ≡ firstRefusal first (numbersIn new last (entriesOf s))
-    unfolding finding firstRefusal
-    refused d = cc (rw (numbers-next new last n k s more) at r.same, ne_eqb m 0 d)
+  module _ (more : k < n) (m : ℕ) (e : m ≡ number_in new (eqb (k + 1) n) last (take (32 * k + 32 - 32 * k) (drop (32 * k) s))) where
+    refused : (m ≡ 0 → ⊥) → record { number = m; index = first + k } ≡ first_refusal first (numbers_in new last (entries_of s))
+    unfolding finding first_refusal
+    refused d = cc (rw (numbers_next new last n k s more) at r.same, ne_eqb m 0 d)
 
     passed : m ≡ 0 → (j : ℕ) → j ≡ k + 1 → Rest new s first last n j
-    unfolding firstRefusal
+    unfolding first_refusal
     passed z j i =
         let l : first + (k + 1) ≡ first + k + 1 = omega arith in
-        rw i (record { within = omega arith; all = r.all; same = cc (rw (numbers-next new last n k s more) at r.same) })
+        rw i (record { within = omega arith; all = r.all; same = cc (rw (numbers_next new last n k s more) at r.same) })
 
 pub check_section_spec : {M : Type 1} → statement M
 check_section_spec =
     tie.close
     (tie.spec
-    invariant-loop
-    decreases-loop
-    (λ c. search at-first)
+    invariant_loop
+    decreases_loop
+    (λ c. search at_first)
     (λ c. search rules)
     (λ c. search rules)
     (λ c. search rules)
@@ -69,4 +69,4 @@ check_section_spec =
     (λ c. search rules)
     (λ c. search rules)
     (λ c. search passed)
-    (λ c. search none-refused))
+    (λ c. search none_refused))

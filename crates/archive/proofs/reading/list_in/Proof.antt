@@ -7,26 +7,26 @@ use mathlib.Core.List.{List}
 use mathlib.Core.Path.{◌≡◌, ◌∙◌}
 use lib.ListN.{length, take, drop}
 use lib.Seq.{drop-length}
-use Rattle.archive.specs.Layout.{bodyAt}
-use Rattle.archive.specs.Reading.{sectionCount, checked, listOf}
-use Rattle.archive.specs.Replay.{listIn}
-use Rattle.archive.proofs.Acceptance.{checked-tells}
+use Rattle.archive.specs.Layout.{body_at}
+use Rattle.archive.specs.Reading.{section_count, checked, list_of}
+use Rattle.archive.specs.Replay.{list_in}
+use Rattle.archive.proofs.Acceptance.{checked_tells}
 use Rattle.archive.proofs.Headers.{Measured, measured}
-use Rattle.archive.proofs.Splits.{rest-whole}
+use Rattle.archive.proofs.Splits.{rest_whole}
 use Rattle.archive.proofs.reading.list_in.Statement.{statement}
 use Rattle.archive.proofs.reading.list_in.Tie as tie
 
 module _ (a : List ℕ) (number : ℕ) (is : number ≡ (checked a).number) where
-  refused : (number ≡ 0 → ⊥) → take (length a - length a) (drop (length a) a) ≡ listIn a
-  unfolding listIn
-  refused d = rest-whole a (length a) ∙ drop-length a ∙ rw (ne_eqb (checked a).number 0 (λ z. d (is ∙ z)))
+  refused : (number ≡ 0 → ⊥) → take (length a - length a) (drop (length a) a) ≡ list_in a
+  unfolding list_in
+  refused d = rest_whole a (length a) ∙ drop-length a ∙ rw (ne_eqb (checked a).number 0 (λ z. d (is ∙ z)))
 
-  accepted : number ≡ 0 → (n : ℕ) → n ≡ sectionCount a → take (length a - (8 + 8 * n)) (drop (8 + 8 * n) a) ≡ listIn a
-  unfolding listIn listOf bodyAt
-  accepted z n e = rest-whole a (8 + 8 * n) ∙ rw (e, eq-eqb (checked a).number 0 (cc))
+  accepted : number ≡ 0 → (n : ℕ) → n ≡ section_count a → take (length a - (8 + 8 * n)) (drop (8 + 8 * n) a) ≡ list_in a
+  unfolding list_in list_of body_at
+  accepted z n e = rest_whole a (8 + 8 * n) ∙ rw (e, eq-eqb (checked a).number 0 (cc))
 
   sizes : number ≡ 0 → Measured a
-  sizes z = measured a (checked-tells a (cc)).headed
+  sizes z = measured a (checked_tells a (cc)).headed
 
 fits : (s : tie.Start) → s.args.number ≡ 0 → Measured s.args.archive.now
 fits s z = sizes s.args.archive.now s.args.number (search) z

@@ -6,18 +6,18 @@ use mathlib.Core.Bool.{true}
 use mathlib.Core.List.{List}
 use mathlib.Core.Path.{◌≡◌}
 use lib.ListN.{length}
-use Rattle.archive.specs.Layout.{bodyAt}
-use Rattle.archive.specs.Reading.{rightOpening, wrongHeader}
+use Rattle.archive.specs.Layout.{body_at}
+use Rattle.archive.specs.Reading.{right_opening, wrong_header}
 use Rattle.archive.proofs.reading.wrong_header.Statement.{statement}
 use Rattle.archive.proofs.reading.wrong_header.Tie as tie
 
-too-short : (a : List ℕ) → length a < 8 → true ≡ wrongHeader a
-unfolding wrongHeader
-too-short a h = rw (lt-ltb (length a) 8 h)
+too_short : (a : List ℕ) → length a < 8 → true ≡ wrong_header a
+unfolding wrong_header
+too_short a h = rw (lt-ltb (length a) 8 h)
 
-returns-2 : tie.Need-returns
-unfolding wrongHeader rightOpening bodyAt
-returns-2 c =
+returns_2 : tie.Need-returns
+unfolding wrong_header right_opening body_at
+returns_2 c =
     let s : tie.Start = search in
     let n : tie.After-section_count-count = search in
     let old : tie.After-opens_as = search in
@@ -28,7 +28,7 @@ pub wrong_header_spec : {M : Type 1} → statement M
 wrong_header_spec =
     tie.close
     (tie.spec
-    (λ c. search too-short)
+    (λ c. search too_short)
     (λ c κs. search rules)
     (λ c κs. search rules)
     (λ c κs. search rules)
@@ -36,4 +36,4 @@ wrong_header_spec =
     (λ c. search rules)
     (λ c. search rules)
     (λ c. search rules)
-    returns-2)
+    returns_2)

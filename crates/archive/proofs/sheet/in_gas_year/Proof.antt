@@ -1,8 +1,8 @@
 -- From April on the gas year is the date's own year, before it the one before: no year is before year 0.
-use Rattle.ledger.specs.Entries.{halfAt}
-use Rattle.archive.specs.YearSheet.{inGasYear}
-use Rattle.ledger.specs.Entries.{entryOf}
-use Rattle.ledger.proofs.Fields.{year-half, month-byte}
+use Rattle.ledger.specs.Entries.{half_at}
+use Rattle.archive.specs.YearSheet.{in_gas_year}
+use Rattle.ledger.specs.Entries.{entry_of}
+use Rattle.ledger.proofs.Fields.{year_half, month_byte}
 use borrow.Author.Tests.{le-leb, lt-leb, ne_eqb}
 use native.Mathlib.Numerals.{add-one}
 use native.Mathlib.Omega.{arith}
@@ -22,21 +22,21 @@ before (suc n) year h =
     let p : suc n - 1 ≡ n = omega arith in
     rw (p, add-one year) (sym (eqb-suc-suc n year))
 
-module _ (s : List ℕ) (year dated : ℕ) (h : length s ≡ 32) (p : dated ≡ halfAt s 4) where
-  date : (entryOf s).date.year ≡ dated
-  date = year-half s ∙ sym p
+module _ (s : List ℕ) (year dated : ℕ) (h : length s ≡ 32) (p : dated ≡ half_at s 4) where
+  date : (entry_of s).date.year ≡ dated
+  date = year_half s ∙ sym p
 
-  from-april : 4 ≤ get_or s 6 0 → eqb dated year ≡ inGasYear year (entryOf s).date
-  unfolding inGasYear
-  from-april m = rw (date, month-byte s, le-leb 4 (get_or s 6 0) m)
+  from_april : 4 ≤ get_or s 6 0 → eqb dated year ≡ in_gas_year year (entry_of s).date
+  unfolding in_gas_year
+  from_april m = rw (date, month_byte s, le-leb 4 (get_or s 6 0) m)
 
-  year-zero : get_or s 6 0 < 4 → dated ≡ 0 → false ≡ inGasYear year (entryOf s).date
-  unfolding inGasYear
-  year-zero m z = rw (date, month-byte s, lt-leb 4 (get_or s 6 0) m) (sym (ne_eqb dated (year + 1) (λ e. omega arith)))
+  year_zero : get_or s 6 0 < 4 → dated ≡ 0 → false ≡ in_gas_year year (entry_of s).date
+  unfolding in_gas_year
+  year_zero m z = rw (date, month_byte s, lt-leb 4 (get_or s 6 0) m) (sym (ne_eqb dated (year + 1) (λ e. omega arith)))
 
-  to-march : get_or s 6 0 < 4 → (dated ≡ 0 → ⊥) → eqb (dated - 1) year ≡ inGasYear year (entryOf s).date
-  unfolding inGasYear
-  to-march m d = rw (date, month-byte s, lt-leb 4 (get_or s 6 0) m) (before dated year d)
+  to_march : get_or s 6 0 < 4 → (dated ≡ 0 → ⊥) → eqb (dated - 1) year ≡ in_gas_year year (entry_of s).date
+  unfolding in_gas_year
+  to_march m d = rw (date, month_byte s, lt-leb 4 (get_or s 6 0) m) (before dated year d)
 
 pub in_gas_year_spec : {M : Type 1} → statement M
 in_gas_year_spec =
@@ -44,7 +44,7 @@ in_gas_year_spec =
     (tie.spec
     (λ c κs. search rules)
     (λ c. search rules)
-    (λ c. search from-april)
-    (λ c. search year-zero)
+    (λ c. search from_april)
+    (λ c. search year_zero)
     (λ c. search rules)
-    (λ c. search to-march))
+    (λ c. search to_march))

@@ -2,14 +2,14 @@
 use borrow.Author.Rules.{rules}
 use native.Mathlib.Omega.{arith}
 use lib.ListN.{length-set}
-use Rattle.archive.specs.Words.{bytesOf}
-use Rattle.archive.proofs.Parts.{four-stored}
+use Rattle.archive.specs.Words.{bytes_of}
+use Rattle.archive.proofs.Parts.{four_stored}
 use Rattle.archive.proofs.words.put_word.Statement.{statement}
 use Rattle.archive.proofs.words.put_word.Tie as tie
 
 returns : tie.Need-returns
-unfolding bytesOf
-returns c = let s : tie.Start = search in four-stored s.args.out.now s.args.at _ _ _ _ (omega arith)
+unfolding bytes_of
+returns c = let s : tie.Start = search in four_stored s.args.out.now s.args.at _ _ _ _ (omega arith)
 
 pub put_word_spec : {M : Type 1} → statement M
 put_word_spec =

@@ -3,12 +3,12 @@ use mathlib.Core.Bool.{true, false, ◌&&◌}
 use mathlib.Core.Path.{◌≡◌, refl}
 use lib.Ieee as Ieee
 use lib.Ieee.{Float, nan, inf, fin}
-use Rattle.backcast.specs.Doubles.{isNumber}
+use Rattle.backcast.specs.Doubles.{is_number}
 use Rattle.backcast.proofs.doubles.is_number.Statement.{statement}
 use Rattle.backcast.proofs.doubles.is_number.Tie as tie
 
-between : (x : Float) → Ieee.lt (inf true) x && Ieee.lt x (inf false) ≡ isNumber x
-unfolding Ieee.lt isNumber
+between : (x : Float) → Ieee.lt (inf true) x && Ieee.lt x (inf false) ≡ is_number x
+unfolding Ieee.lt is_number
 between nan = refl
 between (inf true) = refl
 between (inf false) = refl

@@ -1,7 +1,7 @@
 -- The three parts of a day's closing stand in the order of the rules: violations, then cash, then the account after both.
 use borrow.Author.Rules.{rules}
 use Rattle.ledger.proofs.Bounded.{Bounded, bounded}
-use Rattle.ledger.specs.Closing.{dayClosing, afterDay}
+use Rattle.ledger.specs.Closing.{day_closing, after_day}
 use Rattle.ledger.proofs.closing.close_day.Statement.{statement}
 use Rattle.ledger.proofs.closing.close_day.Tie as tie
 
@@ -9,7 +9,7 @@ known : (s : tie.Start) → Bounded s.args.a
 known s = bounded s.args.a s.requires.1
 
 returns : tie.Need-returns
-unfolding dayClosing afterDay
+unfolding day_closing after_day
 returns c = rw (
   (let at : tie.After-day_end-day = search in at.day_end-day.ensures),
   (let at : tie.After-cash_at-cash = search in at.cash_at-cash.ensures.0),

@@ -9,11 +9,11 @@ use borrow.Author.Tests.{ne_eqb}
 use Rattle.ledger.proofs.closing.days.Statement.{statement}
 use Rattle.ledger.proofs.closing.days.Tie as tie
 
-none-more : (n mask : ℕ) → mask ≡ 0 → n ≡ n + cond (eqb mask 0) 0 1
-none-more n mask z = rw z (omega arith)
+none_more : (n mask : ℕ) → mask ≡ 0 → n ≡ n + cond (eqb mask 0) 0 1
+none_more n mask z = rw z (omega arith)
 
-one-more : (n mask : ℕ) → (mask ≡ 0 → ⊥) → n + 1 ≡ n + cond (eqb mask 0) 0 1
-one-more n mask d = rw (ne_eqb mask 0 d)
+one_more : (n mask : ℕ) → (mask ≡ 0 → ⊥) → n + 1 ≡ n + cond (eqb mask 0) 0 1
+one_more n mask d = rw (ne_eqb mask 0 d)
 
 pub days_spec : {M : Type 1} → statement M
-days_spec = tie.close (tie.spec (λ c. search none-more) (λ c. search rules) (λ c. search one-more))
+days_spec = tie.close (tie.spec (λ c. search none_more) (λ c. search rules) (λ c. search one_more))

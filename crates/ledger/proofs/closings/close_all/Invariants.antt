@@ -1,19 +1,19 @@
 -- One account after the other: what was closed so far and the accounts still to come together say what the rule says.
 use mathlib.Core.Path.{◌≡◌}
-use Rattle.ledger.proofs.ClosedSoFar.{Agrees, Ready, accountsTo, reportsTo}
-use Rattle.ledger.specs.Closing.{staysInRange}
-use Rattle.ledger.specs.State.{heldIn}
-use Rattle.tariff.specs.Dates.{lastOfMonth}
-use Rattle.tariff.specs.Holidays.{onMeasurementDay}
+use Rattle.ledger.proofs.ClosedSoFar.{Agrees, Ready, accounts_to, reports_to}
+use Rattle.ledger.specs.Closing.{stays_in_range}
+use Rattle.ledger.specs.State.{held_in}
+use Rattle.tariff.specs.Dates.{last_of_month}
+use Rattle.tariff.specs.Holidays.{on_measurement_day}
 use Rattle.ledger.proofs.closings.close_all.Given as goal
 
 abbrev pub invariant-loop-i : goal.invariant-loop-i
 invariant-loop-i l =
     record {
-      stored : l.next ≡ accountsTo l.l l.e l.i;
-      reported : l.reports ≡ reportsTo l.l l.e l.i;
+      stored : l.next ≡ accounts_to l.l l.e l.i;
+      reported : l.reports ≡ reports_to l.l l.e l.i;
       complete : Agrees l.l l.i (Ready l.l l.e) l.complete;
-      fits : Agrees l.l l.i (staysInRange l.l.is_new l.l.terms l.e) l.fits;
-      ends : l.ends ≡ lastOfMonth l.e.date;
-      reads : l.reads ≡ onMeasurementDay (heldIn l.l) l.e.date;
+      fits : Agrees l.l l.i (stays_in_range l.l.is_new l.l.terms l.e) l.fits;
+      ends : l.ends ≡ last_of_month l.e.date;
+      reads : l.reads ≡ on_measurement_day (held_in l.l) l.e.date;
     }

@@ -2,16 +2,16 @@
 use borrow.Author.Rules.{rules}
 use native.Mathlib.Omega.{arith}
 use mathlib.Core.Path.{refl}
-use Rattle.ledger.specs.Entries.{byteAt}
+use Rattle.ledger.specs.Entries.{byte_at}
 use Rattle.ledger.proofs.entries.byte.Statement.{statement}
 use Rattle.ledger.proofs.entries.byte.Tie as tie
 
-cast-result : tie.Need-overflow_cast-result
-cast-result c = let s : tie.Start = search in omega (arith, c.shared_slice_known-1.given s.args.at)
+cast_result : tie.Need-overflow_cast-result
+cast_result c = let s : tie.Start = search in omega (arith, c.shared_slice_known-1.given s.args.at)
 
 returns : tie.Need-returns
-unfolding byteAt
+unfolding byte_at
 returns c = let s : tie.Start = search in (refl, omega (arith, c.shared_slice_known-1.given s.args.at))
 
 pub byte_spec : {M : Type 1} → statement M
-byte_spec = tie.close (tie.spec (λ c. search rules) cast-result returns)
+byte_spec = tie.close (tie.spec (λ c. search rules) cast_result returns)

@@ -1,11 +1,11 @@
 -- Each field is read from its own bytes, all of which the entry's 32 hold.
 use borrow.Author.Rules.{rules}
-use Rattle.ledger.specs.Entries.{entryOf}
+use Rattle.ledger.specs.Entries.{entry_of}
 use Rattle.ledger.proofs.entries.decode.Statement.{statement}
 use Rattle.ledger.proofs.entries.decode.Tie as tie
 
 returns : tie.Need-returns
-unfolding entryOf
+unfolding entry_of
 returns c = cc
 
 pub decode_spec : {M : Type 1} → statement M

@@ -5,24 +5,24 @@ use Prim.Native.Nat.{ℕ}
 use mathlib.Core.Bool.{Bool, cond, not}
 use mathlib.Core.Path.{◌≡◌}
 use Rattle.tariff.specs.Amounts.{less}
-use Rattle.tariff.specs.Limits.{belowMinimum}
+use Rattle.tariff.specs.Limits.{below_minimum}
 use Rattle.ledger.specs.Structs.{Account, Month, Quantity, Units}
 use Rattle.ledger.specs.Checks.{verdict}
-use Rattle.ledger.specs.Gas.{afterGiving, givingChecks, giving}
-use Rattle.ledger.specs.Ranges.{accountInRange}
-use Rattle.ledger.specs.State.{withBank}
+use Rattle.ledger.specs.Gas.{after_giving, giving_checks, giving}
+use Rattle.ledger.specs.Ranges.{account_in_range}
+use Rattle.ledger.specs.State.{with_bank}
 use Rattle.ledger.proofs.gas.give.Statement.{statement}
 use Rattle.ledger.proofs.gas.give.Tie as tie
 
 judged : (m : Month) (a : Account) (q : Quantity) (bank : Units) (past fits : Bool) (n₁ n₂ : ℕ)
-    → n₂ ≡ cond past 28 n₁ → n₁ ≡ cond (not fits) 29 0 → past ≡ belowMinimum m a.capacity.bcq bank
-    → fits ≡ accountInRange (withBank a bank) → bank ≡ less a.bank q
-    → record { number = n₂; account = withBank a bank } ≡ giving m a q
-unfolding giving givingChecks afterGiving verdict withBank
+    → n₂ ≡ cond past 28 n₁ → n₁ ≡ cond (not fits) 29 0 → past ≡ below_minimum m a.capacity.bcq bank
+    → fits ≡ account_in_range (with_bank a bank) → bank ≡ less a.bank q
+    → record { number = n₂; account = with_bank a bank } ≡ giving m a q
+unfolding giving giving_checks after_giving verdict with_bank
 judged m a q bank past fits n₁ n₂ q₂ q₁ l f b = cc
 
 returns : tie.Need-returns
-unfolding withBank
+unfolding with_bank
 returns c = search judged
 
 pub give_spec : {M : Type 1} → statement M

@@ -7,49 +7,49 @@ use lib.Dec.{leb}
 use borrow.Author.Rules.{rules}
 use borrow.Author.Tests.{leb-false, not-false}
 use Rattle.tariff.specs.Dates.{before, real}
-use Rattle.tariff.specs.Holidays.{heldDates, leavesOne, named, storedDates}
-use Rattle.tariff.proofs.Bools.{and-left, or-left}
-use Rattle.tariff.proofs.HeldDates.{held-stored}
+use Rattle.tariff.specs.Holidays.{held_dates, leaves_one, named, stored_dates}
+use Rattle.tariff.proofs.Bools.{and_left, or_left}
+use Rattle.tariff.proofs.HeldDates.{held_stored}
 use Rattle.ledger.specs.Checks.{verdict}
-use Rattle.ledger.specs.Holiday.{holidayChecks}
-use Rattle.ledger.specs.State.{heldIn}
+use Rattle.ledger.specs.Holiday.{holiday_checks}
+use Rattle.ledger.specs.State.{held_in}
 use Rattle.ledger.specs.Structs.{Date, Holidays, Ledger}
 use Rattle.ledger.proofs.holiday.refusal.Statement.{statement}
 use Rattle.ledger.proofs.holiday.refusal.Tie as tie
 
 module _ (today : Date) (held : Holidays) (d : Date) (late is_real : Bool) (p : late ≡ before today d) (q : is_real ≡ real d)
     (l : Ledger) (t : l.date ≡ today) (h : l.holidays ≡ held) where
-  no-day : not (is_real && late) ≡ true → 33 ≡ verdict (holidayChecks l d)
-  unfolding holidayChecks verdict
-  no-day z = cc
+  no_day_lem : not (is_real && late) ≡ true → 33 ≡ verdict (holiday_checks l d)
+  unfolding holiday_checks verdict
+  no_day_lem z = cc
 
-  module _ (z : not (is_real && late) ≡ false) (known : Bool) (k : known ≡ named (heldDates held) d) where
-    no-room : leb 16 held.count || known ≡ true → 34 ≡ verdict (holidayChecks l d)
-    unfolding holidayChecks verdict heldIn
-    no-room y = cc
+  module _ (z : not (is_real && late) ≡ false) (known : Bool) (k : known ≡ named (held_dates held) d) where
+    no_room_lem : leb 16 held.count || known ≡ true → 34 ≡ verdict (holiday_checks l d)
+    unfolding holiday_checks verdict held_in
+    no_room_lem y = cc
 
-    module _ (y : leb 16 held.count || known ≡ false) (next : Holidays) (left : Bool) (n : next ≡ storedDates (heldDates held ++ (d ∷ [])))
-        (o : left ≡ leavesOne (heldDates next) d) where
-      left-is : left ≡ leavesOne (heldDates held ++ (d ∷ [])) d
-      left-is = o ∙ ap (λ (x : Holidays). leavesOne (heldDates x) d) n ∙ ap (λ hs. leavesOne hs d) (held-stored (heldDates held ++ (d ∷ [])))
+    module _ (y : leb 16 held.count || known ≡ false) (next : Holidays) (left : Bool) (n : next ≡ stored_dates (held_dates held ++ (d ∷ [])))
+        (o : left ≡ leaves_one (held_dates next) d) where
+      left_is : left ≡ leaves_one (held_dates held ++ (d ∷ [])) d
+      left_is = o ∙ ap (λ (x : Holidays). leaves_one (held_dates x) d) n ∙ ap (λ hs. leaves_one hs d) (held_stored (held_dates held ++ (d ∷ [])))
 
-      none-left : not left ≡ true → 35 ≡ verdict (holidayChecks l d)
-      unfolding holidayChecks verdict heldIn
-      none-left x = cc left-is
+      none_left : not left ≡ true → 35 ≡ verdict (holiday_checks l d)
+      unfolding holiday_checks verdict held_in
+      none_left x = cc left_is
 
-      one-left : not left ≡ false → 0 ≡ verdict (holidayChecks l d)
-      unfolding holidayChecks verdict heldIn
-      one-left x = cc left-is
+      one_left : not left ≡ false → 0 ≡ verdict (holiday_checks l d)
+      unfolding holiday_checks verdict held_in
+      one_left x = cc left_is
 
 -- the date is asked before the month, and room before another place
-is-a-day : (is_real late : Bool) (d : Date) → is_real ≡ real d → not (is_real && late) ≡ false → real d ≡ true
-is-a-day is_real late d q z = sym q ∙ and-left is_real late (not-false (is_real && late) z)
+is_a_day : (is_real late : Bool) (d : Date) → is_real ≡ real d → not (is_real && late) ≡ false → real d ≡ true
+is_a_day is_real late d q z = sym q ∙ and_left is_real late (not-false (is_real && late) z)
 
-has-place : (count : ℕ) (known : Bool) → leb 16 count || known ≡ false → count < 16
-has-place count known y = leb-false 16 count (or-left (leb 16 count) known y)
+has_place : (count : ℕ) (known : Bool) → leb 16 count || known ≡ false → count < 16
+has_place count known y = leb-false 16 count (or_left (leb 16 count) known y)
 
 pub refusal_spec : {M : Type 1} → statement M
 refusal_spec =
     tie.close
-    (tie.spec (search rules) (search rules) (λ c l t h. search no-day) (search rules) (λ c l t h. search no-room) (λ c κs. search has-place) (λ c κs. search is-a-day)
-    (λ c l t h. search none-left) (λ c l t h. search one-left))
+    (tie.spec (search rules) (search rules) (λ c l t h. search no_day_lem) (search rules) (λ c l t h. search no_room_lem) (λ c κs. search has_place) (λ c κs. search is_a_day)
+    (λ c l t h. search none_left) (λ c l t h. search one_left))

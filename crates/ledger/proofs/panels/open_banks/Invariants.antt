@@ -3,13 +3,13 @@ use Prim.Native.Nat.{◌*◌, ◌≤◌}
 use mathlib.Core.Path.{◌≡◌}
 use lib.IntN.{◌+ℤ◌}
 use lib.ListN.{drop}
-use Rattle.ledger.specs.Panel.{openBanks}
+use Rattle.ledger.specs.Panel.{open_banks}
 use Rattle.tariff.specs.Amounts.{size}
 use Rattle.ledger.proofs.panels.open_banks.Given as goal
 
 abbrev pub invariant-loop-i : goal.invariant-loop-i
 invariant-loop-i l =
     record {
-      whole : l.figure.0 +ℤ openBanks (drop l.i l.l.accounts) ≡ openBanks l.l.accounts;
+      whole : l.figure.0 +ℤ open_banks (drop l.i l.l.accounts) ≡ open_banks l.l.accounts;
       small : size l.figure ≤ 100000000000 * l.i;
     }

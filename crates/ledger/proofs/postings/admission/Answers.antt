@@ -3,36 +3,36 @@ use Prim.Native.Nat.{ℕ}
 use mathlib.Core.Bool.{Bool, true, ◌&&◌, cond, not}
 use mathlib.Core.Path.{◌∙◌, ◌≡◌, sym}
 use lib.Dec.{eqb}
-use Rattle.ledger.proofs.Admitted.{admission-own, admission-standing, own-right}
-use Rattle.ledger.proofs.RightEntries.{is-real}
-use Rattle.tariff.specs.Dates.{real, sameDate}
-use Rattle.tariff.specs.Holidays.{heldDates}
+use Rattle.ledger.proofs.Admitted.{admission_own, admission_standing, own_right}
+use Rattle.ledger.proofs.RightEntries.{is_real_lem}
+use Rattle.tariff.specs.Dates.{real, same_date}
+use Rattle.tariff.specs.Holidays.{held_dates}
 use Rattle.ledger.specs.Structs.{Date, Entry, Holidays, Ledger}
 use Rattle.ledger.specs.Checks.{verdict}
-use Rattle.ledger.specs.Forms.{entryNumber}
-use Rattle.ledger.specs.Ranges.{inRange}
-use Rattle.ledger.specs.Days.{wrongDay}
-use Rattle.ledger.specs.Posting.{admission, standingChecks}
-use Rattle.ledger.specs.State.{heldIn}
+use Rattle.ledger.specs.Forms.{entry_number}
+use Rattle.ledger.specs.Ranges.{in_range}
+use Rattle.ledger.specs.Days.{wrong_day}
+use Rattle.ledger.specs.Posting.{admission, standing_checks}
+use Rattle.ledger.specs.State.{held_in}
 use Rattle.ledger.proofs.postings.admission.Goals as goal
 
-module _ (fits begun touched new : Bool) (today : Date) (held : Holidays) (e : Entry) (n : ℕ) (p : n ≡ entryNumber new e) (l : Ledger)
-    (f : inRange l ≡ fits) (b : l.begun ≡ begun) (t : l.touched ≡ touched) (i : l.is_new ≡ new) (d : l.date ≡ today) (h : l.holidays ≡ held) where
-  own : n ≡ entryNumber l.is_new e
+module _ (fits begun touched new : Bool) (today : Date) (held : Holidays) (e : Entry) (n : ℕ) (p : n ≡ entry_number new e) (l : Ledger)
+    (f : in_range l ≡ fits) (b : l.begun ≡ begun) (t : l.touched ≡ touched) (i : l.is_new ≡ new) (d : l.date ≡ today) (h : l.holidays ≡ held) where
+  own : n ≡ entry_number l.is_new e
   own = rw i p
 
   wrong : (n ≡ 0 → ⊥) → n ≡ admission l e
-  wrong not_right = rw own (sym (admission-own l e (rw own at not_right)))
+  wrong not_right = rw own (sym (admission_own l e (rw own at not_right)))
 
   judged : n ≡ 0 → (same day : Bool) (n₁ n₂ n₃ n₄ : ℕ)
       → n₄ ≡ cond (not fits) 20 n₃ → n₃ ≡ cond (not begun && not (eqb e.kind 1)) 21 n₂
-      → n₂ ≡ cond (begun && not same) 22 n₁ → n₁ ≡ cond day 23 0 → day ≡ wrongDay touched (heldDates held) e → same ≡ sameDate e.date today
+      → n₂ ≡ cond (begun && not same) 22 n₁ → n₁ ≡ cond day 23 0 → day ≡ wrong_day touched (held_dates held) e → same ≡ same_date e.date today
       → n₄ ≡ admission l e
-  unfolding standingChecks verdict heldIn
-  judged z same day n₁ n₂ n₃ n₄ q₄ q₃ q₂ q₁ w s = cc (admission-standing l e (sym own ∙ z))
+  unfolding standing_checks verdict held_in
+  judged z same day n₁ n₂ n₃ n₄ q₄ q₃ q₂ q₁ w s = cc (admission_standing l e (sym own ∙ z))
 
-dated : (new : Bool) (e : Entry) (n : ℕ) → n ≡ entryNumber new e → n ≡ 0 → real e.date ≡ true
-dated new e n p z = is-real e (own-right new e (sym p ∙ z))
+dated : (new : Bool) (e : Entry) (n : ℕ) → n ≡ entry_number new e → n ≡ 0 → real e.date ≡ true
+dated new e n p z = is_real_lem e (own_right new e (sym p ∙ z))
 
 pub wrong_day-wrong-requires : goal.wrong_day-wrong-requires
 wrong_day-wrong-requires c = search dated

@@ -10,9 +10,9 @@ use borrow.Author.Rules.{rules}
 use Rattle.ledger.proofs.state.in_one_piece.Statement.{statement}
 use Rattle.ledger.proofs.state.in_one_piece.Tie as tie
 
-one-of-two : (b : Bool) → bool_byte b < 2
-one-of-two true = omega arith
-one-of-two false = omega arith
+one_of_two_lem : (b : Bool) → bool_byte b < 2
+one_of_two_lem true = omega arith
+one_of_two_lem false = omega arith
 
 either : {A : Type 0} (b : Bool) (a past : A) → get_or (a ∷ a ∷ []) (bool_byte b) past ≡ a
 either true a past = refl
@@ -23,6 +23,6 @@ in_one_piece_spec =
     tie.close
     (tie.spec
     (search rules)
-    (λ c. omega (arith, one-of-two c.args.which))
-    (λ c. one-of-two c.args.which)
+    (λ c. omega (arith, one_of_two_lem c.args.which))
+    (λ c. one_of_two_lem c.args.which)
     (λ c. let s : tie.Start = search in either s.args.which s.args.a _))

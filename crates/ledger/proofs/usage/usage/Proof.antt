@@ -4,17 +4,17 @@ use Prim.Native.Nat.{ℕ}
 use mathlib.Core.Bool.{Bool, cond, not}
 use mathlib.Core.Path.{◌≡◌}
 use Rattle.ledger.specs.Checks.{verdict}
-use Rattle.ledger.specs.Ranges.{accountInRange}
-use Rattle.ledger.specs.Usage.{afterUsage, metered, usage, usageChecks}
+use Rattle.ledger.specs.Ranges.{account_in_range}
+use Rattle.ledger.specs.Usage.{after_usage, metered, usage, usage_checks}
 use Rattle.ledger.specs.Structs.{Account, Entry}
 use Rattle.ledger.proofs.usage.usage.Statement.{statement}
 use Rattle.ledger.proofs.usage.usage.Tie as tie
 
 judged : (a b : Account) (e : Entry) (fits : Bool) (n₁ n₂ n₃ : ℕ)
     → n₃ ≡ cond (not a.opened) 24 n₂ → n₂ ≡ cond a.month.metered 26 n₁ → n₁ ≡ cond (not fits) 29 0
-    → fits ≡ accountInRange b → b ≡ metered a (record { 0 = e.w1 })
+    → fits ≡ account_in_range b → b ≡ metered a (record { 0 = e.w1 })
     → record { number = n₃; account = b } ≡ usage a e
-unfolding usage usageChecks afterUsage verdict
+unfolding usage usage_checks after_usage verdict
 judged a b e fits n₁ n₂ n₃ q₃ q₂ q₁ r p = cc
 
 returns : tie.Need-returns

@@ -3,13 +3,13 @@ use mathlib.Core.Path.{◌≡◌}
 use mathlib.Core.Bool.{Bool, not}
 use borrow.Author.Rules.{rules}
 use Rattle.tariff.specs.Amounts.{less}
-use Rattle.tariff.specs.Limits.{belowMinimum}
+use Rattle.tariff.specs.Limits.{below_minimum}
 use Rattle.partners.specs.Receivers.{spares}
 use Rattle.partners.specs.Structs.{Account, Month, Quantity, Units}
 use Rattle.partners.proofs.receivers.spares.Statement.{statement}
 use Rattle.partners.proofs.receivers.spares.Tie as tie
 
-answer : (m : Month) (a : Account) (q : Quantity) (past : Bool) (bank : Units) → past ≡ belowMinimum m a.capacity.bcq bank → bank ≡ less a.bank q
+answer : (m : Month) (a : Account) (q : Quantity) (past : Bool) (bank : Units) → past ≡ below_minimum m a.capacity.bcq bank → bank ≡ less a.bank q
     → not past ≡ spares m a q
 unfolding spares
 answer m a q past bank e₁ e₂ = cc

@@ -3,18 +3,18 @@ use mathlib.Core.Bool.{◌&&◌, ◌||◌}
 use mathlib.Core.Path.{◌≡◌}
 use borrow.Author.Rules.{rules}
 use Rattle.tariff.specs.Amounts.{below, opposite, percent}
-use Rattle.tariff.specs.Closing.{breaksV5}
-use Rattle.tariff.specs.Dates.{lastOfMonth}
-use Rattle.tariff.specs.Months.{february, march, sameMonth, withdrawalMinimum}
+use Rattle.tariff.specs.Closing.{breaks_v5}
+use Rattle.tariff.specs.Dates.{last_of_month}
+use Rattle.tariff.specs.Months.{february, march, same_month, withdrawal_minimum}
 use Rattle.tariff.proofs.closing.breaks_v5.Statement.{statement}
 use Rattle.tariff.proofs.closing.breaks_v5.Tie as tie
 
 -- the answer, from what the calls give
-answer : (d bcq net ends second third p least out low : _) → ends ≡ lastOfMonth d → second ≡ sameMonth d.month february
-    → third ≡ sameMonth d.month march → p ≡ withdrawalMinimum d.month → least ≡ percent p bcq → out ≡ opposite net
+answer : (d bcq net ends second third p least out low : _) → ends ≡ last_of_month d → second ≡ same_month d.month february
+    → third ≡ same_month d.month march → p ≡ withdrawal_minimum d.month → least ≡ percent p bcq → out ≡ opposite net
     → low ≡ below out least
-    → (ends && (second || third)) && low ≡ breaksV5 d bcq net
-unfolding breaksV5
+    → (ends && (second || third)) && low ≡ breaks_v5 d bcq net
+unfolding breaks_v5
 answer d bcq net ends second third p least out low e₁ e₂ e₃ e₄ e₅ e₆ e₇ = cc
 
 pub breaks_v5_spec : {M : Type 1} → statement M

@@ -3,19 +3,19 @@ use Prim.Native.Nat.{ℕ, ◌≤◌}
 use mathlib.Core.Bool.{cond, ◌||◌}
 use mathlib.Core.Path.{◌≡◌}
 use borrow.Author.Rules.{rules}
-use Rattle.tariff.proofs.Results.{and-bound, days-le}
-use Rattle.tariff.specs.Delivery.{daysOfInjection}
-use Rattle.tariff.specs.Months.{december, november, sameMonth}
+use Rattle.tariff.proofs.Results.{and_bound, days_le}
+use Rattle.tariff.specs.Delivery.{days_of_injection}
+use Rattle.tariff.specs.Months.{december, november, same_month}
 use Rattle.tariff.proofs.delivery.days_of_injection.Statement.{statement}
 use Rattle.tariff.proofs.delivery.days_of_injection.Tie as tie
 
 -- the answer, from what the calls give
-answer : (days : ℕ) (m eleventh twelfth : _) → eleventh ≡ sameMonth m november → twelfth ≡ sameMonth m december
+answer : (days : ℕ) (m eleventh twelfth : _) → eleventh ≡ same_month m november → twelfth ≡ same_month m december
     → days ≡ cond (eleventh || twelfth) 30 25
-    → days ≡ daysOfInjection m
-unfolding daysOfInjection
+    → days ≡ days_of_injection m
+unfolding days_of_injection
 answer days m eleventh twelfth e₁ e₂ e₃ = cc
 
 pub days_of_injection_spec : {M : Type 1} → statement M
 unfolding november december
-days_of_injection_spec = tie.close (tie.spec (search rules) (search rules) (search rules) (λ c. and-bound (λ days. days ≤ 30) (search answer) (search days-le)))
+days_of_injection_spec = tie.close (tie.spec (search rules) (search rules) (search rules) (λ c. and_bound (λ days. days ≤ 30) (search answer) (search days_le)))

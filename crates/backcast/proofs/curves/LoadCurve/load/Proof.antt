@@ -2,18 +2,18 @@
 use mathlib.Core.Bool.{true, false}
 use mathlib.Core.Path.{◌≡◌}
 use lib.Ieee.{Float, binary64, add, lt, mul, sub}
-use Rattle.backcast.specs.Load.{loadOf}
+use Rattle.backcast.specs.Load.{load_of}
 use Rattle.backcast.specs.Structs.{LoadCurve}
 use Rattle.backcast.proofs.curves.LoadCurve.load.Statement.{statement}
 use Rattle.backcast.proofs.curves.LoadCurve.load.Tie as tie
 
 module _ (curve : LoadCurve) (f : Float) where
-  cold : lt f curve.turning ≡ true → add binary64 curve.base (mul binary64 curve.slope (sub binary64 curve.turning f)) ≡ loadOf curve f
-  unfolding loadOf
+  cold : lt f curve.turning ≡ true → add binary64 curve.base (mul binary64 curve.slope (sub binary64 curve.turning f)) ≡ load_of curve f
+  unfolding load_of
   cold t = cc
 
-  warm : lt f curve.turning ≡ false → curve.base ≡ loadOf curve f
-  unfolding loadOf
+  warm : lt f curve.turning ≡ false → curve.base ≡ load_of curve f
+  unfolding load_of
   warm t = cc
 
 pub load_spec : {M : Type 1} → statement M

@@ -5,8 +5,8 @@ use mathlib.Core.Path.{◌≡◌}
 use native.Mathlib.Omega.{arith}
 use lib.Dec.{ltb}
 use borrow.Author.Rules.{rules}
-use Rattle.tariff.proofs.Calendar.{days-before, short-le}
-use Rattle.tariff.specs.Dates.{dayNumber, leap}
+use Rattle.tariff.proofs.Calendar.{days_before, short_le}
+use Rattle.tariff.specs.Dates.{day_number, leap}
 use Rattle.tariff.specs.Structs.{Date}
 use Rattle.tariff.proofs.dates.Date.day_number.Statement.{statement}
 use Rattle.tariff.proofs.dates.Date.day_number.Tie as tie
@@ -14,14 +14,14 @@ use Rattle.tariff.proofs.dates.Date.day_number.Tie as tie
 -- the answer, from what the calls give
 answer : (d : Date) (lack short : ℕ) (longer : _) → d.month.0 ≤ 12 → longer ≡ leap d.year → lack ≡ cond longer 1 2
     → short ≡ cond (ltb 2 d.month.0) lack 0
-    → 365 * (d.year - 2000) + (d.year - 2000 + 3) / 4 + ((367 * d.month.0 - 362) / 12 - short) + (d.day - 1) ≡ dayNumber d
-unfolding dayNumber
-answer d lack short longer e₁ e₂ e₃ e₄ = cc (days-before d.year d.month.0 e₁)
+    → 365 * (d.year - 2000) + (d.year - 2000 + 3) / 4 + ((367 * d.month.0 - 362) / 12 - short) + (d.day - 1) ≡ day_number d
+unfolding day_number
+answer d lack short longer e₁ e₂ e₃ e₄ = cc (days_before d.year d.month.0 e₁)
 
 pub day_number_spec : {M : Type 1} → statement M
 day_number_spec =
     tie.close
     (tie.spec
-    (search rules) (search rules) (search rules) (search rules) (search rules) (search rules) (λ c. search short-le)
+    (search rules) (search rules) (search rules) (search rules) (search rules) (search rules) (λ c. search short_le)
     (search rules) (search rules) (search rules) (search rules) (search rules) (search rules)
     (λ c. (search answer, omega arith)))

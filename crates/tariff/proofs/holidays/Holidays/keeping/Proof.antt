@@ -4,19 +4,19 @@ use mathlib.Core.Bool.{Bool, true, false}
 use mathlib.Core.List.{List, [], ◌∷◌, ◌++◌, append-nil}
 use borrow.Author.Rules.{rules}
 use Rattle.tariff.specs.Dates.{before}
-use Rattle.tariff.specs.Holidays.{keptFrom, storedDates}
+use Rattle.tariff.specs.Holidays.{kept_from, stored_dates}
 use Rattle.tariff.specs.Structs.{Date, Holidays}
 use Rattle.tariff.proofs.holidays.Holidays.keeping.Statement.{statement}
 use Rattle.tariff.proofs.holidays.Holidays.keeping.Tie as tie
 
 module _ (d first : Date) (t : Bool) (is : t ≡ before d first) where
-  gone : (h : Holidays) → t ≡ true → (hs : List Date) → h ≡ storedDates hs → h ≡ storedDates (hs ++ keptFrom first (d ∷ []))
-  unfolding keptFrom
-  gone h e hs s = s ∙ ap storedDates (sym (append-nil hs) ∙ rw (sym is ∙ e))
+  gone : (h : Holidays) → t ≡ true → (hs : List Date) → h ≡ stored_dates hs → h ≡ stored_dates (hs ++ kept_from first (d ∷ []))
+  unfolding kept_from
+  gone h e hs s = s ∙ ap stored_dates (sym (append-nil hs) ∙ rw (sym is ∙ e))
 
-  stays : (h r : Holidays) → t ≡ false → ((hs : List Date) → h ≡ storedDates hs → r ≡ storedDates (hs ++ (d ∷ [])))
-      → (hs : List Date) → h ≡ storedDates hs → r ≡ storedDates (hs ++ keptFrom first (d ∷ []))
-  unfolding keptFrom
+  stays : (h r : Holidays) → t ≡ false → ((hs : List Date) → h ≡ stored_dates hs → r ≡ stored_dates (hs ++ (d ∷ [])))
+      → (hs : List Date) → h ≡ stored_dates hs → r ≡ stored_dates (hs ++ kept_from first (d ∷ []))
+  unfolding kept_from
   stays h r e f hs s = f hs s ∙ rw (sym is ∙ e)
 
 pub keeping_spec : {M : Type 1} → statement M

@@ -1,15 +1,15 @@
 -- What February and March must take stands in a table from April to March, which a month enters at its place in the gas year; no entry is above 102.
 use Prim.Native.Nat.{◌≤◌}
 use borrow.Author.Rules.{rules}
-use Rattle.tariff.proofs.Percentages.{withdrawal-minimum-le}
-use Rattle.tariff.proofs.Results.{and-bound}
-use Rattle.tariff.specs.Months.{withdrawalMinimum}
+use Rattle.tariff.proofs.Percentages.{withdrawal_minimum_le}
+use Rattle.tariff.proofs.Results.{and_bound}
+use Rattle.tariff.specs.Months.{withdrawal_minimum}
 use Rattle.tariff.proofs.months.Month.withdrawal_minimum.Statement.{statement}
 use Rattle.tariff.proofs.months.Month.withdrawal_minimum.Tie as tie
 
 returns : tie.Need-returns
-unfolding withdrawalMinimum
-returns c = and-bound (λ share. share ≤ 102) c.percent_in.ensures (search withdrawal-minimum-le)
+unfolding withdrawal_minimum
+returns c = and_bound (λ share. share ≤ 102) c.percent_in.ensures (search withdrawal_minimum_le)
 
 pub withdrawal_minimum_spec : {M : Type 1} → statement M
 withdrawal_minimum_spec = tie.close (tie.spec (search rules) returns)
