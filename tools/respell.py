@@ -2,7 +2,7 @@
 """Spells this repository's definitions and lemmas as Rattle's own library spells its: words and lemmas in snake case, types and modules
 in camel case, a prime as an apostrophe.
 
-usage: tools/respell.py [FOLDER]         rewrites crates/, docs/, README.md and tests/rules below FOLDER (by default this repository)
+usage: tools/respell.py [FOLDER]         rewrites crates/, docs/ and README.md below FOLDER (by default this repository)
        tools/respell.py --list [FOLDER]  prints the rows, old and new, and what to look at, and writes nothing
 
 A name turns where a text of specs/ or proofs/ declares it: `cashIns` to `cash_ins`, `bank-of` to `bank_of`. It turns as a whole word in
@@ -20,6 +20,8 @@ DECLARED = re.compile(rf"^ *(?:(?:abbrev|unfoldable|opaque|pub|record|data|let) 
 IMPORT = re.compile(r"\buse +([\w.]+)\.\{([^}]*)\}")
 SPAN = re.compile(r"`[^`\n]+`")
 COMMENT = re.compile(r"(?:--|//)[^\n]*")
+# What its code spans show is input.
+FORMAT = "TEXT-FORMAT.md"
 # The kinds keep the spelling of the constants in src/; the others are bound where no type stands beside them.
 OWN = {"CLOSE-DAY": "CLOSE_DAY", "CLOSE-MONTH": "CLOSE_MONTH", "fourInARow": "four_in_a_row", "fileEnd": "file_end", "no-holiday": "no_holiday"}
 OWN |= {n: n.replace("-", "_") for n in ("no-terms", "no-transfer", "open-and-moved", "real-d", "same-ledger", "size-whole")}
@@ -120,7 +122,7 @@ def spans(text, table):
 
 
 def clashes(path, text, table, kept):
-    """Names of a file that fall together, and lines where a new name met one that stood there."""
+    """A line for each two names of a file that fall together."""
     words = set(WORD.findall(code_of(text)))
     new = collections.defaultdict(set)
     for w in words:
@@ -135,7 +137,7 @@ def main(argv):
     table = rows(root)
     if listing:
         print("\n".join(f"{a}\t{b}" for a, b in sorted(table.items())))
-    pages = [os.path.join(root, "README.md"), *files(os.path.join(root, "docs"), ".md")]
+    pages = [os.path.join(root, "README.md"), *(p for p in files(os.path.join(root, "docs"), ".md") if not p.endswith(FORMAT))]
     for path in [*files(os.path.join(root, "crates"), (".antt", ".rt", ".edit")), *pages]:
         with open(path, encoding="utf-8") as f:
             text = f.read()
