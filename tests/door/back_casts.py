@@ -1,5 +1,5 @@
 #!/usr/bin/env python3
-"""Writes the table of back-casts, back_casts.txt: a second reading of request (ii) of document 02, by one who had the
+"""Writes the table of back-casts, back_casts.txt: a second reading of request (ii), by one who had the
 request and its open points and nothing of this repository.
 
 A line has the bits of base, slope, turning temperature and temperature, then number and units, then words. All of it is

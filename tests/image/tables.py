@@ -1,5 +1,5 @@
 #!/usr/bin/env python3
-"""No table of month lengths in an image: document 02, (iii), and docs/DECISIONS.md, 128.
+"""No table of month lengths in an image: request (iii), and docs/DECISIONS.md, 128.
 
 Looks for the twelve lengths in the loaded data, the code's bytes, its immediate operands and the memory that these are stored to: in 8, 16,
 32 and 64 bits, alone or as a member of records of up to 16 bytes, from any month on, in either order, less any number that is the same
