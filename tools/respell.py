@@ -3,12 +3,12 @@
 in camel case, a prime as an apostrophe.
 
 usage: tools/respell.py [FOLDER]         rewrites crates/, docs/ and README.md below FOLDER (by default this repository)
-       tools/respell.py --list [FOLDER]  prints the rows, old and new, and what to look at, and writes nothing
+       tools/respell.py --list [FOLDER]  prints the rows, old and new, and writes nothing
 
 A name turns where a text of specs/ or proofs/ declares it: `cashIns` to `cash_ins`, `bank-of` to `bank_of`. It turns as a whole word in
 specs/, proofs/ and src/, in must-fail edits, and in the code spans of pages. Functions of src/, exported names, strings, inputs and
 outputs have no such names, so they stay; so do names that the check makes (`goal.x`, `tie.x`), and names that a file brings in from
-elsewhere. A second run writes nothing."""
+elsewhere. Names of a file that fall together are shown on lines that begin `look:`. A second run writes nothing."""
 import collections
 import os
 import re
@@ -24,7 +24,7 @@ COMMENT = re.compile(r"(?:--|//)[^\n]*")
 FORMAT = "TEXT-FORMAT.md"
 # The kinds keep the spelling of the constants in src/; the others are bound where no type stands beside them.
 OWN = {"CLOSE-DAY": "CLOSE_DAY", "CLOSE-MONTH": "CLOSE_MONTH", "fourInARow": "four_in_a_row", "fileEnd": "file_end", "no-holiday": "no_holiday"}
-OWN |= {n: n.replace("-", "_") for n in ("no-terms", "no-transfer", "open-and-moved", "real-d", "same-ledger", "size-whole")}
+OWN |= {n: n.replace("-", "_") for n in ("cashed-out", "no-terms", "no-transfer", "open-and-moved", "real-d", "same-ledger", "size-whole")}
 CAMEL, DASHED = re.compile(r"[a-z][^-]*[a-z0-9'][A-Z]"), re.compile(r"[^-]+(-[^-]+)+$")
 
 

@@ -10,7 +10,6 @@ mod sheet;
 mod words;
 mod writing;
 
-// The types that cross the boundary; the functions that do stand below, and none of them requires anything.
 ghost use Rattle.std.specs.Prelude.{◌≡◌, ◌+◌, ◌≤◌, length};
 ghost use Rattle.archive.specs.Writing.{written, output_after};
 ghost use Rattle.archive.specs.Reading.{is_new, checked, place_of, section_at};
@@ -28,10 +27,12 @@ use crate::replaying::post_all;
 use crate::sheet::sheet_of;
 use crate::words::word;
 use crate::writing::{plan, put_archive};
+use tariff::amounts::Units;
+
+// The types that cross the boundary; the functions that do stand below, and none of them requires anything.
 pub use entries::Checked;
 pub use reading::Place;
 pub use replaying::{Figures, Replay};
-use tariff::amounts::Units;
 pub use writing::Written;
 
 // The archive of a list of entries, old or new, at the start of the output.

@@ -5,7 +5,6 @@ mod answers;
 mod curves;
 mod doubles;
 
-// The types that cross the boundary; the functions that do stand below, and none of them requires anything.
 ghost use Rattle.std.specs.Prelude.{◌≡◌};
 ghost use Rattle.backcast.specs.Answers.{back_cast};
 ghost use Rattle.backcast.specs.GreatestWhole.{EveryAnswer, OnlyOne};
@@ -14,9 +13,11 @@ ghost use Rattle.backcast.specs.WorkedCases.{WorkedCases};
 
 use crate::answers::refused;
 use crate::doubles::{is_quantity, whole_part};
+use tariff::amounts::Quantity;
+
+// The types that cross the boundary; the functions that do stand below, and none of them requires anything.
 pub use answers::BackCast;
 pub use curves::LoadCurve;
-use tariff::amounts::Quantity;
 
 // The back-cast at temperature f; 31 where one of the four is no number, 32 where the load is no quantity of gas.
 pub fn back_cast(curve: LoadCurve, f: f64) -> BackCast

@@ -3,6 +3,7 @@ use Prim.Native.Nat.{ℕ}
 use mathlib.Core.Path.{◌≡◌, refl, sym, ap, ◌∙◌}
 use mathlib.Core.Bool.{Bool, true, false, cond, not, ◌&&◌}
 use mathlib.Core.List.{List, [], ◌∷◌, ◌++◌, map}
+use mathlib.Core.Logic.{inl, inr}
 use native.Mathlib.Omega.{arith}
 use lib.Dec.{eqb, leb}
 use lib.ListN.{length}
@@ -37,16 +38,16 @@ use Rattle.ledger.proofs.OldLedgers.{month_reported, none_named}
 same_since : (kind : ℕ) → (OnlyNew kind → ⊥) → leb (kind_of kind).since 2 ≡ leb (kind_of kind).since 1
 unfolding kind_of
 same_since kind =
-    each (λ (k : Kind). (k.since ≡ 2 → ⊥) → leb k.since 2 ≡ leb k.since 1) kind _
+    each (λ (k : Kind). (OnlyNew kind → ⊥) → leb k.since 2 ≡ leb k.since 1) kind _
     ((λ _ _. refl) then (λ _ _. refl) then (λ _ _. refl) then (λ _ _. refl) then (λ _ _. refl) then (λ _ _. refl) then (λ _ _. refl) then (λ _ _. refl) then (λ _ _. refl)
-    then (λ _ d. absurd (d refl))
-    then (λ _ d. absurd (d refl))
+    then (λ is d. absurd (d (inl is)))
+    then (λ is d. absurd (d (inr is)))
     then done)
     (λ _. refl)
 
 nine_is_old : (kind : ℕ) → kind ≡ 9 → OnlyNew kind → ⊥
-unfolding kind_of lookup
-nine_is_old kind nine new = let one : (kind_of kind).since ≡ 1 = rw nine in omega (arith, one, new)
+nine_is_old kind nine (inl ten) = omega (arith, nine, ten)
+nine_is_old kind nine (inr eleven) = omega (arith, nine, eleven)
 
 same_version : (new old : Bool) (kind : ℕ) → (OnlyNew kind → ⊥) → leb (kind_of kind).since (version new) ≡ leb (kind_of kind).since (version old)
 same_version true true kind d = refl

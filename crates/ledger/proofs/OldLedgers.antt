@@ -34,7 +34,7 @@ use Rattle.ledger.specs.Holiday.{holding, post_holiday}
 use Rattle.ledger.specs.Posting.{admission, change_of, post_entry, post_kind, post_several, posted, stored}
 use Rattle.ledger.specs.Running.{run}
 use Rattle.ledger.specs.Measuring.{PlacesStay}
-use Rattle.ledger.specs.OldAndNew.{AsBefore, ForfeitsByRule, KeepsWhich, NineKinds, StaysAsBefore, excess_in, is_old_kind}
+use Rattle.ledger.specs.OldAndNew.{AsBefore, ForfeitsByRule, KeepsWhich, NineKinds, StaysAsBefore, StaysUnnamed, excess_in, is_old_kind}
 use Rattle.ledger.proofs.ClosedAccounts.{account_closed, account_reported}
 use Rattle.ledger.proofs.FreshLedger.{fresh_account}
 use Rattle.ledger.proofs.KindCases.{done, each, ◌then◌}
@@ -236,32 +236,29 @@ not_old : (n : ℕ) {kind : ℕ} → leb n 9 ≡ false → is_old_kind kind ≡ 
 unfolding is_old_kind
 not_old n {kind} f t is = true≢false (sym (and_right (leb 1 kind) (leb kind 9) t) ∙ ap (λ (m : ℕ). leb m 9) is ∙ f)
 
--- an old ledger refuses the kinds that could make it another
-refused_later : (l : Ledger) (b : List ℕ) → AsBefore l → is_old_kind (entry_of b).kind ≡ false → AsBefore (posted l b).ledger
+-- an old ledger refuses the kinds that could make it another: what of it every other kind keeps, any posting keeps
+old_keeps : (P : Ledger → Type 0) (l : Ledger) (b : List ℕ) → l.is_new ≡ false → P l → (is_old_kind (entry_of b).kind ≡ true → P (posted l b).ledger) → P (posted l b).ledger
 unfolding refused
-refused_later l b s later = go (eqb (length b) 32) refl
+old_keeps P l b old p keeps = go (is_old_kind (entry_of b).kind) refl
   where
-    unchanged : (n : ℕ) → posted l b ≡ refused l n → AsBefore (posted l b).ledger
-    unchanged n e = rw e s
+    unchanged : (n : ℕ) → posted l b ≡ refused l n → P (posted l b).ledger
+    unchanged n e = rw e p
 
-    go : (t : Bool) → eqb (length b) 32 ≡ t → AsBefore (posted l b).ledger
-    go true w = unchanged 2 (nine_kinds l b s.old (eqb-true (length b) 32 w) later)
-    go false w = unchanged 1 (short_kept l b (eqb-false (length b) 32 w))
+    later : (t : Bool) → eqb (length b) 32 ≡ t → is_old_kind (entry_of b).kind ≡ false → P (posted l b).ledger
+    later true w z = unchanged 2 (nine_kinds l b old (eqb-true (length b) 32 w) z)
+    later false w z = unchanged 1 (short_kept l b (eqb-false (length b) 32 w))
+
+    go : (t : Bool) → is_old_kind (entry_of b).kind ≡ t → P (posted l b).ledger
+    go true z = keeps z
+    go false z = later (eqb (length b) 32) refl z
 
 next_before : (l : Ledger) (b : List ℕ) → AsBefore l → AsBefore (posted l b).ledger
-next_before l b s = go (is_old_kind (entry_of b).kind) refl
-  where
-    go : (t : Bool) → is_old_kind (entry_of b).kind ≡ t → AsBefore (posted l b).ledger
-    go false z = refused_later l b s z
-    go true z =
-        record {
-          old = keeps_which l b ∙ s.old;
-          untold = (kept l b).untold (not_old 10 refl z) s.untold;
-          unnamed = (kept l b).unnamed (not_old 11 refl z) s.unnamed;
-        }
+next_before l b s =
+    old_keeps AsBefore l b s.old s
+    (λ z. record { old = keeps_which l b ∙ s.old; untold = (kept l b).untold (not_old 10 refl z) s.untold })
 
 fresh_before : AsBefore (fresh false)
-fresh_before = record { old = unfold fresh in refl; untold = λ i. rw (fresh_account false i) nobody_untold; unnamed = unfold fresh held_in in (held_stored []) }
+fresh_before = record { old = unfold fresh in refl; untold = λ i. rw (fresh_account false i) nobody_untold }
 
 run_before : (l : Ledger) (bs : List (List ℕ)) → AsBefore l → AsBefore (run l bs)
 run_before l [] s = s
@@ -269,6 +266,16 @@ run_before l (b ∷ bs) s = run_before (posted l b).ledger bs (next_before l b s
 
 pub stays_as_before : StaysAsBefore
 stays_as_before = (next_before, λ bs. run_before (fresh false) bs fresh_before)
+
+next_unnamed : (l : Ledger) (b : List ℕ) → l.is_new ≡ false → held_in l ≡ [] → held_in (posted l b).ledger ≡ []
+next_unnamed l b old none = old_keeps (λ (m : Ledger). held_in m ≡ []) l b old none (λ z. (kept l b).unnamed (not_old 11 refl z) none)
+
+run_unnamed : (l : Ledger) (bs : List (List ℕ)) → l.is_new ≡ false → held_in l ≡ [] → held_in (run l bs) ≡ []
+run_unnamed l [] old none = none
+run_unnamed l (b ∷ bs) old none = run_unnamed (posted l b).ledger bs (keeps_which l b ∙ old) (next_unnamed l b old none)
+
+pub stays_unnamed : StaysUnnamed
+stays_unnamed = (next_unnamed, λ bs. run_unnamed (fresh false) bs (unfold fresh in refl) (unfold fresh held_in in (held_stored [])))
 
 -- ---- an accepted closing of a month
 

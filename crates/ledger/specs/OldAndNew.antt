@@ -1,7 +1,7 @@
 -- What sets old ledgers and new ones apart, and that an old one is answered as it was before there were new ones.
-use Rattle.std.specs.Prelude.{ℕ, min, Bool, false, true, cond, ◌&&◌, leb, List, [], length, get_or, ◌≡◌}
+use Rattle.std.specs.Prelude.{ℕ, min, Bool, false, true, cond, ◌&&◌, leb, ◌⊎◌, List, [], length, get_or, ◌≡◌}
 use Rattle.ledger.specs.Structs.{Date, Ledger, Report}
-use Rattle.ledger.specs.Kinds.{TERMS, CLOSE_MONTH, kind_of}
+use Rattle.ledger.specs.Kinds.{TERMS, CLOSE_MONTH, CONFISCATED, HOLIDAY}
 use Rattle.ledger.specs.Entries.{entry_of}
 use Rattle.ledger.specs.State.{fresh, account_at, held_in, ledger}
 use Rattle.ledger.specs.Answers.{quiet, refused}
@@ -22,24 +22,29 @@ abbrev pub NineKinds : Type 0
 NineKinds =
     (l : Ledger) (b : List ℕ) → l.is_new ≡ false → length b ≡ 32 → is_old_kind (entry_of b).kind ≡ false → posted l b ≡ refused l 2
 
--- R88: an old ledger as the old rules knew it: nothing confiscated was ever told of an account, and no holiday was named.
+-- R88: an old ledger whose accounts are as the old rules knew them: nothing confiscated was ever told of one.
 pub record AsBefore (l : Ledger) : Type 0 where
   pub old : l.is_new ≡ false
   pub untold : (i : ℕ) → ((account_at l i).today.confiscated ≡ false) × ((account_at l i).today.confiscation.0 ≡ 0)
-  pub unnamed : held_in l ≡ []
 
 -- R88: a posting leaves it so, and therefore any list of postings to an old fresh ledger does.
 abbrev pub StaysAsBefore : Type 0
 StaysAsBefore =
     ((l : Ledger) (b : List ℕ) → AsBefore l → AsBefore (posted l b).ledger) × ((bs : List (List ℕ)) → AsBefore (run (fresh false) bs))
 
+-- R88: no posting names a holiday to an old ledger that holds none, and therefore no list of postings to an old fresh ledger does.
+abbrev pub StaysUnnamed : Type 0
+StaysUnnamed =
+    ((l : Ledger) (b : List ℕ) → l.is_new ≡ false → held_in l ≡ [] → held_in (posted l b).ledger ≡ [])
+    × ((bs : List (List ℕ)) → held_in (run (fresh false) bs) ≡ [])
+
 -- R84: the same ledger, told that it is old, or that it is new.
 unfoldable pub told : Bool → Ledger → Ledger
 told new l = ledger l.begun l.touched new l.date l.terms l.holidays l.accounts
 
--- R84: the kind is one that only new ledgers have.
+-- R84: the kind is one that only new ledgers have, by name and not by the table, whose rows the two claims below hold to it.
 abbrev pub OnlyNew : ℕ → Type 0
-OnlyNew kind = (kind_of kind).since ≡ 2
+OnlyNew kind = (kind ≡ CONFISCATED) ⊎ (kind ≡ HOLIDAY)
 
 -- R84: so told, it answers any bytes as before but a CLOSE MONTH and the kinds that only new ledgers have, and what it becomes is the same too.
 abbrev pub AlikeOtherwise : Type 0

@@ -24,13 +24,12 @@ mod trade;
 mod transfer;
 mod usage;
 
-// The types that cross the boundary; the functions that do stand below, and none of them requires anything.
 ghost use Rattle.std.specs.Prelude.{◌≡◌};
 ghost use Rattle.ledger.specs.Forms.{form_number};
 ghost use Rattle.ledger.specs.State.{fresh};
 ghost use Rattle.ledger.specs.Posting.{posted};
 ghost use Rattle.ledger.specs.Panel.{bank_of, panel_of};
-ghost use Rattle.ledger.specs.OldAndNew.{KeepsWhich, NineKinds, StaysAsBefore, ForfeitsByRule, ReportsAlike, AcceptsAlike, AlikeOtherwise};
+ghost use Rattle.ledger.specs.OldAndNew.{KeepsWhich, NineKinds, StaysAsBefore, StaysUnnamed, ForfeitsByRule, ReportsAlike, AcceptsAlike, AlikeOtherwise};
 ghost use Rattle.ledger.specs.Measuring.{measurement_day_in, StaysInRange, EveryMonthMeasured, PlacesStay, StoredAnew, DropsPassed, KeepsOrder, HoldsIt, SameToday, MovesMeasuring};
 ghost use Rattle.ledger.specs.ConfiscatedCases.{ConfiscatedCases};
 ghost use Rattle.ledger.specs.HolidayCases.{HolidayCases};
@@ -44,14 +43,16 @@ use crate::panels::{open_bank, open_banks};
 use crate::postings::{admission, change, post_several};
 use crate::ranges::{account_in_range, in_range};
 use crate::state::{in_one_piece, nobody};
-pub use answers::{Answer, Posted, Report};
-pub use panels::Panel;
-pub use state::{Account, Ledger, ThisMonth, Today};
 use tariff::amounts::{Dth, Units};
 use tariff::dates::Date;
 use tariff::holidays::Holidays;
 use tariff::months::Month;
 use tariff::terms::Terms;
+
+// The types that cross the boundary; the functions that do stand below, and none of them requires anything.
+pub use answers::{Answer, Posted, Report};
+pub use panels::Panel;
+pub use state::{Account, Ledger, ThisMonth, Today};
 
 // A ledger with no terms, no date and no open account, told whether it is old or new.
 pub fn fresh(is_new: bool) -> Ledger
@@ -189,6 +190,7 @@ pub fn old_stays_old()
     ensures kept { KeepsWhich }
     ensures nine_kinds { NineKinds }
     ensures as_before { StaysAsBefore }
+    ensures unnamed { StaysUnnamed }
     ensures forfeits { ForfeitsByRule }
     ensures reports { ReportsAlike }
     ensures accepts { AcceptsAlike }

@@ -7,7 +7,6 @@ mod order;
 mod places;
 mod receivers;
 
-// The types that cross the boundary; the functions that do stand below, and none of them requires anything.
 ghost use Rattle.std.specs.Prelude.{◌≡◌};
 ghost use Rattle.partners.specs.EveryList.{EveryList, EveryOrder, OnlyOne};
 ghost use Rattle.partners.specs.Listing.{partners_of};
@@ -16,9 +15,11 @@ ghost use Rattle.partners.specs.WorkedCases.{WorkedCases};
 
 use crate::answers::{listed, nobody};
 use crate::finding::{number, partners_in};
-pub use answers::PartnerList;
 use ledger::Ledger;
 use tariff::amounts::Quantity;
+
+// The types that cross the boundary; the functions that do stand below, and none of them requires anything.
+pub use answers::PartnerList;
 
 // Any seller and any quantity, of any ledger.
 pub fn partners(ledger: Ledger, seller: u64, quantity: u64) -> PartnerList

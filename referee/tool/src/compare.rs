@@ -31,7 +31,7 @@ const KINDS: [Kind; 7] = [
         letter: "c",
         name: "hostile ledgers",
         case: hostile::case,
-        cases: 100,
+        cases: 120,
     },
     Kind {
         letter: "d",

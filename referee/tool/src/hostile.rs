@@ -10,7 +10,7 @@ use crate::run::{Run, Same};
 use referee::{Date, Ledger};
 
 pub fn case(random: &mut Random, run: &mut Run) -> Same {
-    for _ in 0..20 {
+    for _ in 0..30 {
         let ledger = any_ledger(random);
         all_kinds(random, run, &ledger)?;
     }
