@@ -16,6 +16,7 @@ pub mod Moving
 pub mod StepKinds
 pub mod StepClosing
 pub mod EveryPosting
+pub mod Runs
 pub mod Measured
 pub mod FreshLedger
 pub mod Figures

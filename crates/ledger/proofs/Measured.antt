@@ -25,7 +25,6 @@ use Rattle.ledger.specs.Kinds.{kind_of, lookup}
 use Rattle.ledger.specs.Measuring.{DropsPassed, EveryMonthMeasured, HolidayAccepted, HoldsIt, KeepsOrder, MovesMeasuring, SameToday, StaysInRange, StoredAnew}
 use Rattle.ledger.specs.Posting.{admission, post_entry, post_kind, post_several, posted, standing_checks, stored}
 use Rattle.ledger.specs.Ranges.{every_account, in_range}
-use Rattle.ledger.specs.Running.{run}
 use Rattle.ledger.specs.State.{account_at, fresh, held_in, with_holidays}
 use Rattle.ledger.specs.Structs.{Date, Entry, Ledger, Posted, Holidays}
 use Rattle.ledger.specs.Transfer.{giver, post_transfer, receiver, transfer_checks}
@@ -36,6 +35,7 @@ use Rattle.ledger.proofs.FreshLedger.{fresh_sound}
 use Rattle.ledger.proofs.NamedDays.{held_next, holding_ranged, is_later_lem, is_real_day, leaves_one_lem}
 use Rattle.ledger.proofs.OldLedgers.{month_closed, places_stay}
 use Rattle.ledger.proofs.OneStep.{Sound}
+use Rattle.ledger.proofs.Runs.{run_keeps}
 use Rattle.ledger.proofs.Verdicts.{verdict_tail}
 
 -- ---- any list of postings
@@ -47,12 +47,8 @@ sound_next l b s = go (eqb (posted l b).answer.number 0) refl
     go true e = ((step l b s).taken e).sound
     go false e = rw ((step l b s).kept e) s
 
-run_sound : (l : Ledger) (bs : List (List ℕ)) → Sound l → Sound (run l bs)
-run_sound l [] s = s
-run_sound l (b ∷ bs) s = run_sound (posted l b).ledger bs (sound_next l b s)
-
 pub stays_in_range_lem : StaysInRange
-stays_in_range_lem new bs = (run_sound (fresh new) bs (fresh_sound new)).ranged
+stays_in_range_lem new bs = (run_keeps Sound sound_next (fresh new) bs (fresh_sound new)).ranged
 
 pub every_month_measured : EveryMonthMeasured
 unfolding held_in
@@ -150,12 +146,9 @@ stored_next l b s h = by_number (eqb (posted l b).answer.number 0) refl
     by_number true e = by_kind (eqb-true (posted l b).answer.number 0 e) (eqb (entry_of b).kind 11) (eqb (entry_of b).kind 9) refl refl
     by_number false e = rw ((step l b s).kept e) h
 
-run_stored : (l : Ledger) (bs : List (List ℕ)) → Sound l → Stored l → Stored (run l bs)
-run_stored l [] s h = h
-run_stored l (b ∷ bs) s h = run_stored (posted l b).ledger bs (sound_next l b s) (stored_next l b s h)
-
 pub stored_anew : StoredAnew
-stored_anew new bs = run_stored (fresh new) bs (fresh_sound new) (fresh_stored new)
+stored_anew new bs =
+    (run_keeps (λ (l : Ledger). Sound l × Stored l) (λ l b k. (sound_next l b k.0, stored_next l b k.0 k.1)) (fresh new) bs (fresh_sound new, fresh_stored new)).1
 
 -- ---- the same day's other postings
 

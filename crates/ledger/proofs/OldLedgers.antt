@@ -32,13 +32,13 @@ use Rattle.ledger.specs.Closing.{after_closing, after_day, after_month, closing_
 use Rattle.ledger.specs.Closings.{closed, closing_checks, holidays_after, post_closing}
 use Rattle.ledger.specs.Holiday.{holding, post_holiday}
 use Rattle.ledger.specs.Posting.{admission, change_of, post_entry, post_kind, post_several, posted, stored}
-use Rattle.ledger.specs.Running.{run}
 use Rattle.ledger.specs.Measuring.{PlacesStay}
 use Rattle.ledger.specs.OldAndNew.{AsBefore, ForfeitsByRule, KeepsWhich, NineKinds, StaysAsBefore, StaysUnnamed, excess_in, is_old_kind}
 use Rattle.ledger.proofs.ClosedAccounts.{account_closed, account_reported}
 use Rattle.ledger.proofs.FreshLedger.{fresh_account}
 use Rattle.ledger.proofs.KindCases.{done, each, ◌then◌}
 use Rattle.ledger.proofs.OldKinds.{old_posted}
+use Rattle.ledger.proofs.Runs.{run_keeps}
 use Rattle.ledger.proofs.StepKinds.{account_reworked}
 
 -- ---- what is told of one account
@@ -260,22 +260,25 @@ next_before l b s =
 fresh_before : AsBefore (fresh false)
 fresh_before = record { old = unfold fresh in refl; untold = λ i. rw (fresh_account false i) nobody_untold }
 
-run_before : (l : Ledger) (bs : List (List ℕ)) → AsBefore l → AsBefore (run l bs)
-run_before l [] s = s
-run_before l (b ∷ bs) s = run_before (posted l b).ledger bs (next_before l b s)
-
 pub stays_as_before : StaysAsBefore
-stays_as_before = (next_before, λ bs. run_before (fresh false) bs fresh_before)
+stays_as_before = (next_before, λ bs. run_keeps AsBefore next_before (fresh false) bs fresh_before)
 
 next_unnamed : (l : Ledger) (b : List ℕ) → l.is_new ≡ false → held_in l ≡ [] → held_in (posted l b).ledger ≡ []
 next_unnamed l b old none = old_keeps (λ (m : Ledger). held_in m ≡ []) l b old none (λ z. (kept l b).unnamed (not_old 11 refl z) none)
 
-run_unnamed : (l : Ledger) (bs : List (List ℕ)) → l.is_new ≡ false → held_in l ≡ [] → held_in (run l bs) ≡ []
-run_unnamed l [] old none = none
-run_unnamed l (b ∷ bs) old none = run_unnamed (posted l b).ledger bs (keeps_which l b ∙ old) (next_unnamed l b old none)
+-- old and without a holiday
+abbrev Plain : Ledger → Type 0
+Plain l = (l.is_new ≡ false) × (held_in l ≡ [])
+
+next_plain : (l : Ledger) (b : List ℕ) → Plain l → Plain (posted l b).ledger
+next_plain l b p = (keeps_which l b ∙ p.0, next_unnamed l b p.0 p.1)
+
+fresh_plain : Plain (fresh false)
+unfolding fresh held_in
+fresh_plain = (refl, held_stored [])
 
 pub stays_unnamed : StaysUnnamed
-stays_unnamed = (next_unnamed, λ bs. run_unnamed (fresh false) bs (unfold fresh in refl) (unfold fresh held_in in (held_stored [])))
+stays_unnamed = (next_unnamed, λ bs. (run_keeps Plain next_plain (fresh false) bs fresh_plain).1)
 
 -- ---- an accepted closing of a month
 

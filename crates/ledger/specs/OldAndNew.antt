@@ -42,7 +42,7 @@ StaysUnnamed =
 unfoldable pub told : Bool → Ledger → Ledger
 told new l = ledger l.begun l.touched new l.date l.terms l.holidays l.accounts
 
--- R84: the kind is one that only new ledgers have, by name and not by the table, whose rows the two claims below hold to it.
+-- R84: the kinds that only new ledgers have, by name: so the two claims below hold the table of kinds to this list.
 abbrev pub OnlyNew : ℕ → Type 0
 OnlyNew kind = (kind ≡ CONFISCATED) ⊎ (kind ≡ HOLIDAY)
 
