@@ -18,8 +18,8 @@ STRUCTS = {
 SOURCES = (
     "crates/tariff/src/dates.rt", "crates/tariff/src/holidays.rt", "crates/tariff/src/terms.rt", "crates/tariff/src/steps.rt",
     "crates/tariff/src/bill.rt", "crates/ledger/src/state.rt", "crates/ledger/src/answers.rt",
-    "crates/ledger/src/panels.rt", "crates/archive/src/entries.rt", "crates/archive/src/reading.rt",
-    "crates/archive/src/writing.rt", "crates/archive/src/replaying.rt", "crates/backcast/src/curves.rt",
+    "crates/ledger/src/panels.rt", "crates/archive/src/answers.rt",
+    "crates/archive/src/replaying.rt", "crates/backcast/src/curves.rt",
     "crates/backcast/src/answers.rt", "crates/partners/src/answers.rt", "crates/nedrulov/src/lib.rt",
 )
 # A tuple struct of one number is that number on the other side.

@@ -2,7 +2,7 @@
 use borrow.Author.Tests.{eqb-true, eqb-false, ltb-false, eq-eqb, le-ltb}
 use native.Mathlib.Omega.{arith}
 use Prim.Native.Nat.{ℕ, ◌%◌, ◌≤◌}
-use mathlib.Core.Path.{◌≡◌, refl, ap}
+use mathlib.Core.Path.{◌≡◌, refl}
 use mathlib.Core.Bool.{Bool, true, false, cond}
 use mathlib.Core.List.{List, map}
 use lib.Dec.{eqb, ltb}
@@ -13,9 +13,7 @@ use Rattle.archive.specs.Entries.{entries_of, finding, first_refusal}
 use Rattle.archive.specs.Layout.{sections_of, archive_of}
 use Rattle.archive.specs.Writing.{list_checked, too_large, unwritten, written}
 use Rattle.archive.specs.Reading.{is_new, wrong_header, right_directory, numbers_of, parts_of, checked}
-use Rattle.archive.specs.Structs.{Checked}
 use Rattle.archive.proofs.Refusals.{Zeros, none_refused, all_zero}
-use Rattle.archive.proofs.Headers.{Measured, measured}
 
 -- ---- the writer
 
@@ -93,11 +91,3 @@ checked_tells a h =
 pub readable_checked : (a : List ℕ) → Readable a → checked a ≡ finding 0 0
 unfolding checked
 readable_checked a r = rw (r.headed, r.directed) (none_refused 0 (numbers_of (is_new a) (parts_of a)) r.zeros)
-
-pub accepted_sizes : (a : List ℕ) (c : Checked) → c ≡ checked a → c.number ≡ 0 → Measured a
-accepted_sizes a c e z = measured a (checked_tells a (cc)).headed
-
--- no number, no index
-pub checked_nowhere : (a : List ℕ) → (checked a).number ≡ 0 → (checked a).index ≡ 0
-unfolding finding
-checked_nowhere a h = ap (λ (c : Checked). c.index) (readable_checked a (checked_tells a h))

@@ -1,46 +1,19 @@
 -- Every entry has 32 bytes, so to pass k entries of a list is to pass 32 k of its bytes, and whole entries put concatenated are entries again.
 use native.Mathlib.Omega.{arith}
 use native.Mathlib.Nat.{zero-add}
-use Prim.Native.Nat.{ℕ, zero, suc, ◌+◌, ◌*◌, ◌-◌, ◌/◌, ◌%◌, ◌<◌, ◌≤◌}
+use Prim.Native.Nat.{ℕ, zero, suc, ◌+◌, ◌*◌, ◌/◌, ◌%◌, ◌<◌, ◌≤◌}
 use mathlib.Core.Path.{◌≡◌, refl, sym, ap, ◌∙◌}
 use mathlib.Core.List.{List, [], ◌∷◌, ◌++◌}
 use lib.ListN.{length, get_or, take, drop, length-take, length-drop, length-append}
-use lib.Seq.{drop-drop, take-append-le, drop-append-le, take-add, take_all}
+use lib.Seq.{take-append-le, drop-append-le, take-add, take_all}
 use Rattle.archive.specs.Entries.{first_entries, entries_of}
+use Rattle.std.specs.Simd.{first_chunks}
 use Rattle.archive.specs.Layout.{concatenated}
-
--- the entry at k, and those after it, as a loop meets them
-pub entries_next : (n k : ℕ) (s : List ℕ) → k < n → first_entries (n - k) (drop (32 * k) s) ≡ take (32 * k + 32 - 32 * k) (drop (32 * k) s) ∷ first_entries (n - (k + 1)) (drop (32 * (k + 1)) s)
-unfolding first_entries
-entries_next n k s h =
-    let m : n - k ≡ suc (n - (k + 1)) = omega arith in
-    let j : 32 * (k + 1) ≡ 32 * k + 32 = omega arith in
-    let w : 32 * k + 32 - 32 * k ≡ 32 = omega arith in
-    rw (m, j, w, drop-drop 32 (32 * k) s)
-
-pub entries_none : (n k : ℕ) (s : List ℕ) → n ≤ k → first_entries (n - k) s ≡ []
-unfolding first_entries
-entries_none n k s h = let z : n - k ≡ 0 = omega arith in rw z
 
 pub length_entries : (n : ℕ) (s : List ℕ) → length (first_entries n s) ≡ n
 unfolding first_entries
 length_entries zero s = refl
 length_entries (suc n) s = ap suc (length_entries n (drop 32 s))
-
-pub take_entries : (k n : ℕ) (s : List ℕ) → k ≤ n → take k (first_entries n s) ≡ first_entries k s
-unfolding first_entries
-take_entries zero n s h = refl
-take_entries (suc k) zero s h = absurd (omega arith)
-take_entries (suc k) (suc n) s h = ap (λ r. take 32 s ∷ r) (take_entries k n (drop 32 s) (omega arith))
-
-pub drop_entries : (k n : ℕ) (s : List ℕ) → k ≤ n → drop k (first_entries n s) ≡ first_entries (n - k) (drop (32 * k) s)
-unfolding first_entries
-drop_entries zero n s h = let m : n - 0 ≡ n = omega arith in rw m
-drop_entries (suc k) zero s h = absurd (omega arith)
-drop_entries (suc k) (suc n) s h =
-    let m : suc n - suc k ≡ n - k = omega arith in
-    let j : 32 * suc k ≡ 32 + 32 * k = omega arith in
-    rw (m, j) (drop_entries k n (drop 32 s) (omega arith) ∙ ap (first_entries (n - k)) (drop-drop (32 * k) 32 s))
 
 -- each entry is whole
 pub entry_whole : (n k : ℕ) (s : List ℕ) → k < n → 32 * n ≤ length s → length (get_or (first_entries n s) k []) ≡ 32
@@ -75,3 +48,9 @@ unfolding entries_of
 entries_of_append s t h =
     let n : length (s ++ t) / 32 ≡ length s / 32 + length t / 32 = rw length-append (omega arith) in
     rw n (entries_append (length s / 32) (length t / 32) s t (omega arith))
+
+-- the entries as std cuts bytes into arrays of 32
+pub chunks_entries : (n : ℕ) (s : List ℕ) → first_chunks 32 n s ≡ first_entries n s
+unfolding first_entries
+chunks_entries zero s = refl
+chunks_entries (suc n) s = ap (λ r. take 32 s ∷ r) (chunks_entries n (drop 32 s))

@@ -77,6 +77,14 @@ module _ (f : ℕ → ℕ → Units) where
       ∙ set_up_to 16 rows i row h
       ∙ same_up_to 16 (λ j. cond (eqb i j) row (rows j)) (λ j. up_to 12 (λ n. cond (eqb i j && eqb m n) x (f j n))) (λ j l. row_stored (eqb i j) i j m x refl)
 
+-- every row has twelve cells
+pub row_length : (s : List (List Units)) → s ≡ grid (cell_at s) → (n : ℕ) → n < length s → length (get_or s n []) ≡ 12
+unfolding grid
+row_length s e n h =
+    let rows : ℕ → List Units = λ i. up_to 12 (λ m. cell_at s i m) in
+    let long : length s ≡ 16 = ap length e ∙ length_up_to 16 rows in
+    ap (λ t. length (get_or t n [])) e ∙ ap length (get_up_to 16 rows n [] (omega arith)) ∙ length_up_to 12 (λ m. cell_at s n m)
+
 -- ---- the column of a month, filled from the top
 
 beyond : (b : Bool) (i j : ℕ) → (i ≡ j → ⊥) → ltb j i ≡ b → b ≡ ltb j (i + 1)

@@ -6,7 +6,7 @@ use mathlib.Core.Path.{◌∙◌, ◌≡◌, refl, sym}
 use mathlib.Core.Bool.{Bool, true, false, ◌||◌}
 use mathlib.Core.List.{List, [], ◌∷◌, ◌++◌}
 use lib.Dec.{eqb}
-use lib.ListN.{length, get_or, take, get_or-eq_default}
+use lib.ListN.{length, get_or, take}
 use lib.Seq.{take-suc}
 use Rattle.tariff.proofs.Bools.{and_left, and_right, or_left, or_right}
 use Rattle.ledger.specs.Entries.{half_at}
@@ -110,15 +110,6 @@ opening_bytes_lem new a h = (
 pub opened : (a : List ℕ) → right_opening a ≡ true
     → (get_or a 0 0 ≡ get_or (opening_bytes (is_new a)) 0 0) × (get_or a 1 0 ≡ get_or (opening_bytes (is_new a)) 1 0) × (get_or a 2 0 ≡ get_or (opening_bytes (is_new a)) 2 0) × (get_or a 3 0 ≡ get_or (opening_bytes (is_new a)) 3 0)
 opened a h = opening_bytes_lem (is_new a) a (opens_as_lem a h)
-
--- fewer than four bytes are no new archive's: the fourth that is not there counts as 0
-pub too_short : (a : List ℕ) → length a < 4 → false ≡ is_new a
-unfolding is_new
-too_short a h = go (opens_as true a) refl
-  where
-    go : (new : Bool) → opens_as true a ≡ new → false ≡ new
-    go false e = refl
-    go true e = absurd (omega (arith, (opening_bytes_lem true a e).3, get_or-eq_default a 0 {n = 3} (omega arith)))
 
 eight : (a : List ℕ) → 8 ≤ length a
     → take 8 a ≡ get_or a 0 0 ∷ get_or a 1 0 ∷ get_or a 2 0 ∷ get_or a 3 0 ∷ get_or a 4 0 ∷ get_or a 5 0 ∷ get_or a 6 0 ∷ get_or a 7 0 ∷ []

@@ -4,6 +4,8 @@ pub mod EntryLists
 pub mod Splits
 pub mod Parts
 pub mod Findings
+pub mod FirstFaults
+pub mod Openings
 pub mod Pairs
 pub mod Numbering
 pub mod Refusals
@@ -19,3 +21,8 @@ pub mod OldArchives
 pub mod Grids
 pub mod Replays
 pub mod ArchiveSizes
+pub mod Plans
+pub mod Places
+pub mod Answered
+pub mod Stores
+pub mod Columns

@@ -6,9 +6,10 @@ use mathlib.Core.List.{List, [], ◌∷◌, ◌++◌}
 use lib.ListN.{length, get_or, take, drop, length-append}
 use lib.Seq.{drop_at, drop-cons}
 use Rattle.ledger.specs.Entries.{word_at}
+use Rattle.std.specs.Int.{w32, to_le_bytes}
+use Rattle.archive.specs.RoundTrips.{Bytes}
 use Rattle.archive.specs.Words.{bytes_of}
 use Rattle.ledger.proofs.Fields.{word_bytes}
-use Rattle.archive.specs.RoundTrips.{Bytes}
 
 -- n has room in so many bytes
 abbrev Within : ℕ → ℕ → Type 0
@@ -58,3 +59,12 @@ unfolding bytes_of
 word_put before after at n e h =
     word_value (before ++ (bytes_of 4 n ++ after)) at (simp (length-append) (omega (arith, e)))
     ∙ ap (λ (l : List ℕ). value_of (take 4 l)) (drop_at before (bytes_of 4 n ++ after) at e) ∙ value_of_bytes 4 n (omega arith)
+
+-- the bytes that std takes a number apart into
+pub le_bytes : (n : ℕ) → n < 4294967296 → to_le_bytes w32 n ≡ bytes_of 4 n
+unfolding bytes_of
+le_bytes n h =
+    let one : n / 256 % 256 ≡ n / 256 % 256 = refl in
+    let two : n / 65536 % 256 ≡ n / 256 / 256 % 256 = omega arith in
+    let three : n / 16777216 % 256 ≡ n / 256 / 256 / 256 % 256 = omega arith in
+    cc

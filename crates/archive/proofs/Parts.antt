@@ -1,26 +1,18 @@
 -- A copy that goes on where the last one ended is one longer copy, and a part that comes back filled changes nothing beside it.
 use native.Mathlib.Omega.{arith}
-use native.Mathlib.Nat.{add_assoc, add-sub_cancel_left}
-use Prim.Native.Nat.{ℕ, suc, ◌+◌, ◌-◌, ◌≤◌}
+use native.Mathlib.Nat.{add_assoc}
+use Prim.Native.Nat.{ℕ, ◌+◌, ◌-◌, ◌≤◌}
 use mathlib.Core.Path.{◌≡◌, sym, ap, ◌∙◌}
-use mathlib.Core.List.{List, [], ◌∷◌, ◌++◌, append-nil, append_assoc}
-use lib.ListN.{length, take, drop, set, length-drop}
-use lib.Seq.{paste, sets-eq, take_all, length-take-le, drop-length, drop-drop, take-add, take-paste, drop-paste}
-
--- four stores
-pub four_stored : (d : List ℕ) (at a b c e : ℕ) → at + 4 ≤ length d → set (set (set (set d at a) (at + 1) b) (at + 2) c) (at + 3) e ≡ paste d at (a ∷ b ∷ c ∷ e ∷ []) 4
-four_stored d at a b c e h =
-    let one : at + 1 ≡ suc at = omega arith in
-    let two : at + 2 ≡ suc (suc at) = omega arith in
-    let three : at + 3 ≡ suc (suc (suc at)) = omega arith in
-    rw (one, two, three) (sets-eq (a ∷ b ∷ c ∷ e ∷ []) d at h)
+use mathlib.Core.List.{List, [], ◌++◌, append-nil, append_assoc}
+use lib.ListN.{length, take, drop, length-drop}
+use lib.Seq.{paste, take_all, drop-length, drop-drop, take-add, take-paste, drop-paste}
 
 -- what is left past a part that runs to the end
 past : (d : List ℕ) (off : ℕ) → drop (length d - off) (drop off d) ≡ []
 past d off = ap (λ (k : ℕ). drop k (drop off d)) (sym (length-drop off d)) ∙ drop-length (drop off d)
 
 -- a part from an offset to the end, filled from its start and back in its place
-lent_back : (d p ys : List ℕ) (off : ℕ) → ys ≡ p ++ drop (length p) (take (length d - off) (drop off d))
+pub lent_back : (d p ys : List ℕ) (off : ℕ) → ys ≡ p ++ drop (length p) (take (length d - off) (drop off d))
     → take off d ++ (ys ++ drop (length d - off) (drop off d)) ≡ take off d ++ (p ++ drop (off + length p) d)
 lent_back d p ys off e =
     ap (λ (l : List ℕ). take off d ++ l)
@@ -39,15 +31,3 @@ paste_more d s x at j n hd hs e =
     ∙ sym (append_assoc (take at d ++ take j s) (take n (drop j s)) (drop (at + j + n) d))
     ∙ ap (λ (l : List ℕ). l ++ drop (at + j + n) d) (append_assoc (take at d) (take j s) (take n (drop j s)) ∙ ap (λ (l : List ℕ). take at d ++ l) (sym (take-add j n s)))
     ∙ ap (λ (k : ℕ). (take at d ++ take (j + n) s) ++ drop k d) (add_assoc at j n)
-
--- ---- one section more: its bytes are copied to the part of the output from its offset
-
-pub section_bytes : (s : List ℕ) (at size : ℕ) → at + size ≤ length s → length (take (at + size - at) (drop at s)) ≡ size
-section_bytes s at size h = rw add-sub_cancel_left (length-take-le size (drop at s) (rw length-drop (omega arith)))
-
-pub section_stored : (d s x ys : List ℕ) (body at size : ℕ) → x ≡ paste d body s at → body ≤ length d → at + size ≤ length s
-    → ys ≡ take (at + size - at) (drop at s) ++ drop (length (take (at + size - at) (drop at s))) (take (length x - (body + at)) (drop (body + at) x))
-    → take (body + at) x ++ (ys ++ drop (length x - (body + at)) (drop (body + at) x)) ≡ paste d body s (at + size)
-section_stored d s x ys body at size e hd hs h =
-    lent_back x (take (at + size - at) (drop at s)) ys (body + at) h
-    ∙ rw (section_bytes s at size hs, add-sub_cancel_left at size) (paste_more d s x body at size hd (omega arith) e)

@@ -1,74 +1,114 @@
--- One posting more of a list of entries, as a loop meets it.
-use Prim.Native.Nat.{ℕ, ◌+◌, ◌*◌, ◌-◌, ◌<◌, ◌≤◌}
-use mathlib.Core.Path.{◌≡◌, refl, sym, ap, ◌∙◌}
+-- What is counted so far, with what the entries from k on will count, is what all of them count; the ledger likewise.
+use native.Mathlib.Omega.{arith}
+use Prim.Native.Nat.{ℕ, suc, ◌+◌, ◌-◌, ◌<◌, ◌≤◌}
+use mathlib.Core.Path.{◌≡◌, refl, sym, ap, ap₂, ◌∙◌}
 use mathlib.Core.Bool.{Bool, true, false, cond}
 use mathlib.Core.List.{List, [], ◌∷◌}
-use native.Mathlib.Omega.{arith}
+use mir.Val.{bool_byte}
 use lib.Dec.{eqb}
-use lib.ListN.{take, drop}
+use lib.ListN.{length, get_or, drop, length-drop}
+use lib.Seq.{drop-cons}
 use Rattle.ledger.specs.Posting.{posted}
 use Rattle.ledger.specs.Running.{Line, history, run}
-use Rattle.archive.specs.Structs.{Ledger}
-use Rattle.ledger.specs.declared.answers.Posted.{Posted}
-use Rattle.archive.specs.Entries.{first_entries}
-use Rattle.archive.specs.Replay.{count_of, as_accepted, as_refused}
-use Rattle.archive.proofs.EntryLists.{entries_next, entries_none}
+use Rattle.ledger.specs.State.{fresh}
+use Rattle.archive.specs.Structs.{Checked, Ledger, Replay}
+use Rattle.archive.specs.Reading.{checked, is_new}
+use Rattle.ledger.specs.declared.answers.Answer.{Answer}
+use Rattle.archive.specs.Replay.{count_of, as_accepted, as_refused, fresh_for, entries_in, replayed}
 
--- 1 for number 0, else 0
-abbrev pub accepting : ℕ → ℕ
-accepting number = cond (eqb number 0) 1 0
+-- the entries from k on, as a loop meets them
+pub entries_left : (es : List (List ℕ)) (k : ℕ) (d : List ℕ) → k < length es → drop k es ≡ get_or es k d ∷ drop (k + 1) es
+entries_left es k d h = let j : suc k ≡ k + 1 = omega arith in rw j at (drop-cons es k d h)
 
-pub accepting_le : (number : ℕ) → accepting number ≤ 1
-accepting_le number = go (eqb number 0)
+pub entries_done : {A : Type 0} (es : List A) (k : ℕ) → length es ≤ k → drop k es ≡ []
+entries_done {A} es k h = go (drop k es) (rw length-drop (omega arith))
   where
-    go : (t : Bool) → cond t 1 0 ≤ 1
-    go true = omega arith
-    go false = omega arith
+    go : (xs : List A) → length xs ≡ 0 → xs ≡ []
+    go [] e = refl
+    go (x ∷ xs) e = absurd (omega arith)
 
-pub as_accepted_lem : (b : List ℕ) (p : Posted) → as_accepted (record { bytes = b; answer = p.answer }) ≡ accepting p.answer.number
+-- a bool as a number
+pub one_byte : (b : Bool) (n : ℕ) → b ≡ eqb n 0 → bool_byte b ≡ cond (eqb n 0) 1 0
+one_byte b n e = rw (← e) (go b)
+  where
+    go : (b : Bool) → bool_byte b ≡ cond b 1 0
+    go true = refl
+    go false = refl
+
+-- 1 for a posting that was accepted, else 0
+abbrev one_of : Answer → ℕ
+one_of b = cond (eqb b.number 0) 1 0
+
+one_le : (b : Bool) → cond b 1 0 ≤ 1
+one_le true = omega arith
+one_le false = omega arith
+
+others : (b : Bool) → cond b 0 1 ≡ 1 - cond b 1 0
+others true = refl
+others false = refl
+
+accepted_one : (x : List ℕ) (b : Answer) → as_accepted (record { bytes = x; answer = b }) ≡ one_of b
 unfolding as_accepted
-as_accepted_lem b p = refl
+accepted_one x b = refl
 
-one_less : (t : Bool) → cond t 0 1 ≡ 1 - cond t 1 0
-one_less true = refl
-one_less false = refl
-
-pub as_refused_lem : (b : List ℕ) (p : Posted) → as_refused (record { bytes = b; answer = p.answer }) ≡ 1 - accepting p.answer.number
+refused_one : (x : List ℕ) (b : Answer) → as_refused (record { bytes = x; answer = b }) ≡ 1 - one_of b
 unfolding as_refused
-as_refused_lem b p = one_less (eqb p.answer.number 0)
+refused_one x b = others (eqb b.number 0)
 
-module _ (f : Line → ℕ) (l : Ledger) where
-  pub count_none : count_of f (history l []) ≡ 0
-  unfolding count_of
-  count_none = refl
+count_next : (f : Line → ℕ) (l : Ledger) (b : List ℕ) (bs : List (List ℕ)) → count_of f (history l (b ∷ bs)) ≡ f (record { bytes = b; answer = (posted l b).answer }) + count_of f (history (posted l b).ledger bs)
+unfolding count_of
+count_next f l b bs = refl
 
-  count_next : (b : List ℕ) (bs : List (List ℕ)) → count_of f (history l (b ∷ bs)) ≡ f (record { bytes = b; answer = (posted l b).answer }) + count_of f (history (posted l b).ledger bs)
-  unfolding count_of
-  count_next b bs = refl
+count_none : (f : Line → ℕ) (l : Ledger) → count_of f (history l []) ≡ 0
+unfolding count_of
+count_none f l = refl
 
-module _ (n k : ℕ) (s : List ℕ) (l : Ledger) where
-  abbrev pub left : List (List ℕ)
-  left = first_entries (n - k) (drop (32 * k) s)
+pub record PostedSoFar (new : Bool) (es : List (List ℕ)) (k : ℕ) (l : Ledger) (accepted refused : ℕ) : Type 0 where
+  pub some : accepted + refused ≡ k
+  pub accepts : accepted + count_of as_accepted (history l (drop k es)) ≡ count_of as_accepted (history (fresh new) es)
+  pub refuses : refused + count_of as_refused (history l (drop k es)) ≡ count_of as_refused (history (fresh new) es)
+  pub same : run l (drop k es) ≡ run (fresh new) es
 
-  abbrev pub bytes : List ℕ
-  bytes = take (32 * k + 32 - 32 * k) (drop (32 * k) s)
+pub none_posted : (new : Bool) (es : List (List ℕ)) (l : Ledger) → l ≡ fresh new → PostedSoFar new es 0 l 0 0
+none_posted new es l e = record { some = refl; accepts = rw e (omega arith); refuses = rw e (omega arith); same = rw e }
 
-  abbrev pub after : List (List ℕ)
-  after = first_entries (n - (k + 1)) (drop (32 * (k + 1)) s)
+module _ (new : Bool) (es : List (List ℕ)) (k : ℕ) (l : Ledger) (accepted refused : ℕ) (r : PostedSoFar new es k l accepted refused) where
+  pub all_posted : length es ≤ k → (accepted ≡ count_of as_accepted (history (fresh new) es)) × (refused ≡ count_of as_refused (history (fresh new) es)) × (l ≡ run (fresh new) es)
+  all_posted h =
+      let done = entries_done es k h in
+      let none = ap (λ (bs : List (List ℕ)). count_of as_accepted (history l bs)) done ∙ count_none as_accepted l in
+      let neither = ap (λ (bs : List (List ℕ)). count_of as_refused (history l bs)) done ∙ count_none as_refused l in
+      (omega (arith, r), omega (arith, r), sym (ap (run l) done) ∙ r.same)
 
-  pub run_turn : k < n → (p : Posted) → p ≡ posted l bytes → run p.ledger after ≡ run l left
-  run_turn h p e =
-      ap (λ (q : Posted). run q.ledger after) e ∙ sym (ap (run l) (entries_next n k s h))
+  module _ (d : List ℕ) (more : k < length es) (b : Answer) (m : Ledger) (e : b ≡ (posted l (get_or es k d)).answer) (f : m ≡ (posted l (get_or es k d)).ledger) where
+    counted : (g : Line → ℕ) (h : Answer → ℕ) → ((x : List ℕ) (b : Answer) → g (record { bytes = x; answer = b }) ≡ h b) → h b + count_of g (history m (drop (k + 1) es)) ≡ count_of g (history l (drop k es))
+    counted g h same =
+        ap₂ (λ (a : Answer) (n : Ledger). h a + count_of g (history n (drop (k + 1) es))) e f
+        ∙ ap (λ (x : ℕ). x + count_of g (history (posted l (get_or es k d)).ledger (drop (k + 1) es))) (sym (same (get_or es k d) (posted l (get_or es k d)).answer))
+        ∙ sym (ap (λ (bs : List (List ℕ)). count_of g (history l bs)) (entries_left es k d more) ∙ count_next g l (get_or es k d) (drop (k + 1) es))
 
-  pub count_turn : (f : Line → ℕ) (g : Posted → ℕ) → ((p : Posted) → f (record { bytes = bytes; answer = p.answer }) ≡ g p) → k < n → (p : Posted) → p ≡ posted l bytes
-      → g p + count_of f (history p.ledger after) ≡ count_of f (history l left)
-  count_turn f g same h p e =
-      ap (λ (q : Posted). g q + count_of f (history q.ledger after)) e
-      ∙ ap (λ (x : ℕ). x + count_of f (history (posted l bytes).ledger after)) (sym (same (posted l bytes)))
-      ∙ sym (ap (λ (es : List (List ℕ)). count_of f (history l es)) (entries_next n k s h) ∙ count_next f l bytes after)
+    pub one_posted : (one : ℕ) → one ≡ one_of b → PostedSoFar new es (k + 1) m (accepted + one) (refused + (1 - one))
+    one_posted one u =
+        let small = one_le (eqb b.number 0) in
+        let some = counted as_accepted one_of accepted_one in
+        let rest = counted as_refused (λ (q : Answer). 1 - one_of q) refused_one in
+        record {
+          some = omega (arith, r);
+          accepts = omega (arith, r);
+          refuses = omega (arith, r);
+          same = ap (λ (n : Ledger). run n (drop (k + 1) es)) f ∙ sym (ap (run l) (entries_left es k d more)) ∙ r.same;
+        }
 
-  pub run_over : n ≤ k → run l left ≡ l
-  run_over h = ap (run l) (entries_none n k (drop (32 * k) s) h)
+-- ---- the replay of an archive
 
-  pub count_over : (f : Line → ℕ) → n ≤ k → count_of f (history l left) ≡ 0
-  count_over f h = ap (λ (es : List (List ℕ)). count_of f (history l es)) (entries_none n k (drop (32 * k) s) h) ∙ count_none f l
+same_replay : (r s : Replay) → r.number ≡ s.number → r.index ≡ s.index → r.accepted ≡ s.accepted → r.refused ≡ s.refused → r.ledger ≡ s.ledger → r ≡ s
+same_replay r s a b c d e = λ i. record { number = a i; index = b i; accepted = c i; refused = d i; ledger = e i }
+
+pub replays : (a : List ℕ) (new : Bool) (c : Checked) (es : List (List ℕ)) (r : Replay) → new ≡ is_new a → c ≡ checked a → es ≡ entries_in a → r.number ≡ c.number → r.index ≡ c.index
+    → r.accepted ≡ count_of as_accepted (history (fresh new) es) → r.refused ≡ count_of as_refused (history (fresh new) es) → r.ledger ≡ run (fresh new) es → r ≡ replayed a
+unfolding replayed fresh_for
+replays a new c es r b e f n i y x l =
+    same_replay r (replayed a) (n ∙ ap (λ (d : Checked). d.number) e) (i ∙ ap (λ (d : Checked). d.index) e) (y ∙ posted_as (λ l es. count_of as_accepted (history l es))) (x ∙ posted_as (λ l es. count_of as_refused (history l es))) (l ∙ posted_as run)
+  where
+    posted_as : {A : Type 0} (g : Ledger → List (List ℕ) → A) → g (fresh new) es ≡ g (fresh (is_new a)) (entries_in a)
+    posted_as g = ap₂ (λ m s. g (fresh m) s) b f

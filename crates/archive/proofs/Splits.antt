@@ -1,36 +1,19 @@
 -- The first section runs to the first closing, or to the end; what follows is cut as a list of its own.
 use native.Mathlib.Omega.{arith}
-use Prim.Native.Nat.{ℕ, zero, suc, ◌+◌, ◌*◌, ◌-◌, ◌/◌, ◌%◌, ◌<◌, ◌≤◌}
+use Prim.Native.Nat.{ℕ, zero, suc, ◌+◌, ◌-◌, ◌<◌, ◌≤◌, min}
 use mathlib.Core.Path.{◌≡◌, refl, ap, ◌∙◌}
 use mathlib.Core.Bool.{Bool, true, false, cond}
-use mathlib.Core.List.{List, [], ◌∷◌, append-nil}
-use lib.ListN.{length, get_or, take, drop, length-drop}
-use lib.Seq.{length-take-le, take_all, drop-drop}
+use mathlib.Core.List.{List, [], ◌∷◌, ◌++◌, append-nil}
+use lib.ListN.{length, take, drop, length-drop}
+use lib.Seq.{take_all, take-append-le}
+use Rattle.std.specs.List.{IsFirstMatchOrLen}
 use Rattle.archive.specs.Entries.{first_entries, entries_of, closes_month}
 use Rattle.archive.specs.Layout.{joined, sections_of, concatenated}
-use Rattle.archive.proofs.EntryLists.{entries_next, entries_none, take_entries, drop_entries, together_entries, length_entries}
 
 -- how many entries the first section has
 unfoldable pub lead : List (List ℕ) → ℕ
 lead [] = 0
 lead (e ∷ es) = cond (closes_month e) 1 (1 + lead es)
-
-lead_case : (b : Bool) (n m : ℕ) → n ≤ m → cond b 1 (1 + n) ≤ suc m
-lead_case true n m h = omega arith
-lead_case false n m h = omega arith
-
-lead_le : (es : List (List ℕ)) → lead es ≤ length es
-unfolding lead
-lead_le [] = omega arith
-lead_le (e ∷ es) = lead_case (closes_month e) (lead es) (length es) (lead_le es)
-
-lead_positive : (e : List ℕ) (es : List (List ℕ)) → 0 < lead (e ∷ es)
-unfolding lead
-lead_positive e es = go (closes_month e)
-  where
-    go : (b : Bool) → 0 < cond b 1 (1 + lead es)
-    go true = omega arith
-    go false = omega arith
 
 -- the first section, and the rest
 abbrev Parted : List (List ℕ) → Type 0
@@ -53,117 +36,50 @@ unfolding sections_of joined concatenated lead
 first_then_rest e [] = alone e (closes_month e)
 first_then_rest e (f ∷ fs) = before e f fs (closes_month e) (first_then_rest f fs)
 
--- the same of a list's bytes: `size` bytes, and then the rest
-record First (s : List ℕ) (size : ℕ) : Type 0 where
-  split : sections_of (entries_of s) ≡ take size s ∷ sections_of (entries_of (drop size s))
-  positive : 0 < size
-  multiple : size % 32 ≡ 0
-  within : size ≤ length s
+-- the part of a list from a place to its end
+pub rest_whole : {A : Type 0} (s : List A) (at : ℕ) → take (length s - at) (drop at s) ≡ drop at s
+rest_whole s at = take_all (length s - at) (drop at s) (rw length-drop (omega arith))
 
-module _ (n : ℕ) (s : List ℕ) (h : length s ≡ 32 * suc n) where
-  abbrev es : List (List ℕ)
-  es = first_entries (suc n) s
+-- where the first closing stands, counted from 0, is one less than the first section's entries
+lead_first : (es : List (List ℕ)) (i : ℕ) → IsFirstMatchOrLen closes_month es i → min (i + 1) (length es) ≡ lead es
+unfolding lead
+lead_first [] i h = omega arith
+lead_first (e ∷ es) zero h = let closes : closes_month e ≡ true = h.1 (omega arith) e in rw closes (omega arith)
+lead_first (e ∷ es) (suc i) h =
+    let open_still : closes_month e ≡ false = h.0 0 e (omega arith) (omega arith) in
+    let rest = lead_first es i (λ k d l m. h.0 (suc k) d (omega arith) (omega arith), λ l d. h.1 (omega arith) d) in
+    rw open_still (omega arith)
 
-  lead_within : lead es ≤ suc n
-  lead_within = omega (arith, lead_le es, length_entries (suc n) s)
+taken : (es x rest : List (List ℕ)) (i : ℕ) → es ≡ x ++ rest → length x ≡ min (i + 1) (length es) → IsFirstMatchOrLen closes_month es i → 0 < length es
+    → sections_of es ≡ concatenated x ∷ sections_of (take (length es - length x) (drop (length x) es))
+taken [] x rest i e l f h = absurd (omega arith)
+taken (b ∷ bs) x rest i e l f h =
+    let size : length x ≡ lead (b ∷ bs) = l ∙ lead_first (b ∷ bs) i f in
+    let part : take (lead (b ∷ bs)) (b ∷ bs) ≡ x = rw (← size, e) (take-append-le (length x) x rest (omega arith) ∙ take_all (length x) x (omega arith)) in
+    rw (rest_whole (b ∷ bs) (length x), size) (first_then_rest b bs ∙ rw part)
 
-  in_entries : sections_of es ≡ concatenated (take (lead es) es) ∷ sections_of (drop (lead es) es)
-  unfolding first_entries
-  in_entries = first_then_rest (take 32 s) (first_entries n (drop 32 s))
+pub section_taken : (es t x rest : List (List ℕ)) (i : ℕ) → t ≡ es → t ≡ x ++ rest → length x ≡ min (i + 1) (length t) → IsFirstMatchOrLen closes_month t i → 0 < length t
+    → sections_of es ≡ concatenated x ∷ sections_of (take (length es - length x) (drop (length x) es))
+section_taken es t x rest i q e l f h = rw (← q) (taken t x rest i e l f h)
 
-  in_bytes : sections_of es ≡ take (32 * lead es) s ∷ sections_of (first_entries (suc n - lead es) (drop (32 * lead es) s))
-  in_bytes =
-      in_entries
-      ∙ ap (λ x. concatenated x ∷ sections_of (drop (lead es) es)) (take_entries (lead es) (suc n) s lead_within)
-      ∙ ap (λ x. x ∷ sections_of (drop (lead es) es)) (together_entries (lead es) s)
-      ∙ ap (λ x. take (32 * lead es) s ∷ sections_of x) (drop_entries (lead es) (suc n) s lead_within)
-
-  lead_some : 0 < lead es
-  unfolding first_entries
-  lead_some = lead_positive (take 32 s) (first_entries n (drop 32 s))
-
-  first_of : First s (32 * lead es)
-  unfolding entries_of
-  first_of =
-      let whole : length s / 32 ≡ suc n = omega arith in
-      let rest : length (drop (32 * lead es) s) / 32 ≡ suc n - lead es = rw length-drop (omega (arith, lead_within)) in
-      record {
-        split = rw (whole, rest) in_bytes;
-        positive = omega (arith, lead_some);
-        multiple = omega arith;
-        within = omega (arith, lead_within);
-      }
-
-  size_of : length (get_or (sections_of es) 0 []) ≡ 32 * lead es
-  size_of = rw in_bytes (length-take-le (32 * lead es) s (omega (arith, lead_within)))
-
--- the bytes of the first section are those of its entries
-pub first_size : (s : List ℕ) → length s % 32 ≡ 0 → length (get_or (sections_of (entries_of s)) 0 []) ≡ 32 * lead (entries_of s)
-unfolding entries_of first_entries sections_of lead
-first_size s h = go (length s / 32) refl
-  where
-    go : (n : ℕ) → length s / 32 ≡ n → length (get_or (sections_of (first_entries n s)) 0 []) ≡ 32 * lead (first_entries n s)
-    go zero e = refl
-    go (suc n) e = size_of n s (omega arith)
-
-first : (s : List ℕ) → length s % 32 ≡ 0 → 0 < length s → First s (length (get_or (sections_of (entries_of s)) 0 []))
-unfolding entries_of
-first s h k = go (length s / 32) refl
-  where
-    go : (n : ℕ) → length s / 32 ≡ n → First s (length (get_or (sections_of (entries_of s)) 0 []))
-    go zero e = absurd (omega arith)
-    go (suc n) e = rw (first_size s h, e) (first_of n s (omega arith))
+pub none_cut : (es t : List (List ℕ)) → t ≡ es → length t ≡ 0 → sections_of es ≡ []
+unfolding sections_of
+none_cut [] t q h = refl
+none_cut (e ∷ es) t q h = absurd (omega (arith, ap length q))
 
 pub no_sections : (s : List ℕ) → length s ≡ 0 → sections_of (entries_of s) ≡ []
 unfolding entries_of first_entries sections_of
 no_sections [] h = refl
 no_sections (x ∷ s) h = absurd (omega arith)
 
--- ---- the first section, as a loop meets its entries
+-- no more sections than entries
+few_case : (b : Bool) (e : List ℕ) (ss : List (List ℕ)) (n : ℕ) → length ss ≤ n → length (cond b (e ∷ ss) (joined e ss)) ≤ suc n
+unfolding joined
+few_case true e ss n h = omega arith
+few_case false e [] n h = omega arith
+few_case false e (s ∷ ss) n h = omega arith
 
-module _ (n k : ℕ) (s : List ℕ) (h : k < n) where
-  pub lead_here : closes_month (take (32 * k + 32 - 32 * k) (drop (32 * k) s)) ≡ true → lead (first_entries (n - k) (drop (32 * k) s)) ≡ 1
-  unfolding lead
-  lead_here t = rw (entries_next n k s h, t)
-
-  pub lead_later : closes_month (take (32 * k + 32 - 32 * k) (drop (32 * k) s)) ≡ false → lead (first_entries (n - k) (drop (32 * k) s)) ≡ 1 + lead (first_entries (n - (k + 1)) (drop (32 * (k + 1)) s))
-  unfolding lead
-  lead_later t = rw (entries_next n k s h, t)
-
-pub lead_end : (n k : ℕ) (s : List ℕ) → n ≤ k → lead (first_entries (n - k) s) ≡ 0
-unfolding lead
-lead_end n k s h = rw (entries_none n k s h)
-
--- ---- the sections, as a loop meets them
-
--- the part of a list from a place to its end
-pub rest_whole : (s : List ℕ) (at : ℕ) → take (length s - at) (drop at s) ≡ drop at s
-rest_whole s at = take_all (length s - at) (drop at s) (rw length-drop (omega arith))
-
-pub rest_multiple : (s : List ℕ) (at : ℕ) → length s % 32 ≡ 0 → at % 32 ≡ 0 → at ≤ length s → length (take (length s - at) (drop at s)) % 32 ≡ 0
-rest_multiple s at h k l = rw (rest_whole s at, length-drop) (omega arith)
-
-pub record FirstAt (s : List ℕ) (at size : ℕ) : Type 0 where
-  pub split : sections_of (entries_of (drop at s)) ≡ take size (drop at s) ∷ sections_of (entries_of (drop (at + size) s))
-  pub count : length (sections_of (entries_of (drop at s))) ≡ suc (length (sections_of (entries_of (drop (at + size) s))))
-  pub positive : 0 < size
-  pub multiple : size % 32 ≡ 0
-  pub within : at + size ≤ length s
-  pub taken : length (take size (drop at s)) ≡ size
-
-of_first : (s : List ℕ) (at size : ℕ) → at < length s → First (drop at s) size → FirstAt s at size
-of_first s at size l f =
-    let split = f.split ∙ ap (λ (x : List ℕ). take size (drop at s) ∷ sections_of (entries_of x)) (drop-drop size at s) in
-    let within : size ≤ length s - at = rw length-drop at f.within in
-    record {
-      split = split;
-      count = ap length split;
-      positive = f.positive;
-      multiple = f.multiple;
-      within = omega arith;
-      taken = length-take-le size (drop at s) f.within;
-    }
-
-pub first_at : (s : List ℕ) (at size : ℕ) → length s % 32 ≡ 0 → at % 32 ≡ 0 → at < length s → size ≡ length (get_or (sections_of (entries_of (take (length s - at) (drop at s)))) 0 []) → FirstAt s at size
-first_at s at size h k l e =
-    of_first s at size l (rw (e, rest_whole s at) (first (drop at s) (rw length-drop (omega arith)) (rw length-drop (omega arith))))
+pub few_sections : (es : List (List ℕ)) → length (sections_of es) ≤ length es
+unfolding sections_of
+few_sections [] = omega arith
+few_sections (e ∷ es) = few_case (closes_month e) e (sections_of es) (length es) (few_sections es)

@@ -25,3 +25,8 @@ finding number index = record { number = number; index = index }
 unfoldable pub first_refusal : ℕ → List ℕ → Checked
 first_refusal i [] = finding 0 0
 first_refusal i (n ∷ ns) = cond (eqb n 0) (first_refusal (i + 1) ns) (finding n i)
+
+-- R73: the numbers of some entries, by what each has, told whether it is the last of them.
+unfoldable pub numbers_by : (Bool → List ℕ → ℕ) → List (List ℕ) → List ℕ
+numbers_by number [] = []
+numbers_by number (e ∷ es) = number (eqb (length es) 0) e ∷ numbers_by number es

@@ -5,6 +5,7 @@ pub mod Entries
 pub mod Layout
 pub mod Writing
 pub mod Reading
+pub mod Faults
 pub mod Replay
 pub mod YearSheet
 pub mod RoundTrips

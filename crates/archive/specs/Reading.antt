@@ -57,6 +57,10 @@ pairs_from a i (suc n) = pair_at a i ∷ pairs_from a (i + 1) n
 unfoldable pub pairs_of : List ℕ → List Pair
 pairs_of a = pairs_from a 0 (section_count a)
 
+-- R72: a pair by itself, as eight bytes.
+unfoldable pub pair_in : List ℕ → Pair
+pair_in bytes = (word_at bytes 0, word_at bytes 4)
+
 -- R72: whole entries, at least one.
 unfoldable pub right_length : ℕ → Bool
 right_length n = ltb 0 n && eqb (n % 32) 0

@@ -2,8 +2,8 @@
 pub use Rattle.tariff.specs.declared.amounts.Units.{Units}
 pub use Rattle.tariff.specs.declared.dates.Date.{Date}
 pub use Rattle.ledger.specs.declared.state.Ledger.{Ledger}
-pub use Rattle.archive.specs.declared.entries.Checked.{Checked}
-pub use Rattle.archive.specs.declared.reading.Place.{Place}
+pub use Rattle.archive.specs.declared.answers.Checked.{Checked}
+pub use Rattle.archive.specs.declared.answers.Place.{Place}
 pub use Rattle.archive.specs.declared.replaying.Figures.{Figures}
 pub use Rattle.archive.specs.declared.replaying.Replay.{Replay}
-pub use Rattle.archive.specs.declared.writing.Written.{Written}
+pub use Rattle.archive.specs.declared.answers.Written.{Written}

@@ -1,7 +1,9 @@
 // The archive: what is opened in thirty years.
 #![tactic(auto)]
 
+mod answers;
 mod entries;
+mod faults;
 mod opening;
 mod reading;
 mod replaying;
@@ -10,129 +12,100 @@ mod sheet;
 mod words;
 mod writing;
 
-ghost use Rattle.std.specs.Prelude.{◌≡◌, ◌+◌, ◌≤◌, length};
+ghost use Rattle.std.specs.Prelude.{◌≡◌, ◌+◌, ◌≤◌, length, IfOk, MatchResult};
+ghost use Rattle.archive.specs.Faults.{Tells, Lies, Holds, Lent};
 ghost use Rattle.archive.specs.Writing.{written, output_after};
-ghost use Rattle.archive.specs.Reading.{is_new, checked, place_of, section_at};
-ghost use Rattle.archive.specs.Replay.{replayed, figures_of, BanksAddUp, FigureAddsUp, DebtsAddUp, DaysAddUp, StrikingChangesNothing};
+ghost use Rattle.archive.specs.Reading.{is_new, checked, place_of};
+ghost use Rattle.archive.specs.Replay.{entries_in, replayed, figures_of, BanksAddUp, FigureAddsUp, DebtsAddUp, DaysAddUp, StrikingChangesNothing};
 ghost use Rattle.archive.specs.YearSheet.{sheet_of};
 ghost use Rattle.archive.specs.RoundTrips.{ReadsBack, WritesBack};
 ghost use Rattle.archive.specs.OldAndNew.{FourthByteTells, OneByteApart, OldIsNotNew, OldKindsOnly, LaterKindsRefused};
 ghost use Rattle.archive.specs.WorkedCases.{WorkedCases};
 
 use crate::opening::opens_as;
-use crate::reading::{
-    check_sections, list_in, nowhere, right_directory, section_count, wrong_header,
-};
+use crate::reading::Archive;
 use crate::replaying::post_all;
 use crate::sheet::sheet_of;
-use crate::words::word;
 use crate::writing::{plan, put_archive};
 use tariff::amounts::Units;
 
 // The types that cross the boundary; the functions that do stand below, and none of them requires anything.
-pub use entries::Checked;
-pub use reading::Place;
+pub use answers::{Checked, Place, Span, Written};
+pub use faults::{Fault, Trouble};
 pub use replaying::{Figures, Replay};
-pub use writing::Written;
 
-// The archive of a list of entries, old or new, at the start of the output.
-pub fn write(is_new: bool, list: &[u8], out: &mut [u8]) -> Written
-    ensures answer { result ≡ written is_new list.now (length out.old) }
+// The archive of a list of entries, old or new, at the start of the output; how long it is.
+pub fn write(is_new: bool, list: &[u8], out: &mut [u8]) -> Result<usize, Trouble>
+    ensures answer { Holds result (written is_new list.now (length out.old)) }
     ensures output { out.new ≡ output_after is_new list.now out.old }
 {
-    let w = plan(is_new, list, out.len());
-    if w.number == 0 {
-        put_archive(is_new, out, list);
-    }
-    w
+    let length = plan(is_new, list, out.len())?;
+    put_archive(is_new, out, list);
+    Ok(length)
 }
 
 // Whether an archive is new: its first four bytes tell, whatever follows them.
+#[tactic(auto, unfolding(crate::specs::Reading::is_new))]
 pub fn is_new(archive: &[u8]) -> bool
     ensures { result ≡ is_new archive.now }
 {
-    if archive.len() < 4 {
-        return false;
-    }
     opens_as(true, archive)
 }
 
-// What is wrong with an archive, and at which entry; 0 and 0 where nothing is.
-pub fn check(archive: &[u8]) -> Checked
-    ensures { result ≡ checked archive.now }
+// What is wrong with an archive, and at which entry.
+pub fn check(archive: &[u8]) -> Result<(), Trouble>
+    ensures { Tells result (checked archive.now) }
 {
-    if wrong_header(archive) {
-        return Checked {
-            number: 8,
-            index: 0,
-        };
-    }
-    if !right_directory(archive) {
-        return Checked {
-            number: 9,
-            index: 0,
-        };
-    }
-    check_sections(is_new(archive), archive)
+    Archive::accepted(archive)?;
+    Ok(())
 }
 
 // Where section i lies.
-pub fn place(archive: &[u8], i: usize) -> Place
-    ensures value { result ≡ place_of archive.now i }
-    ensures within { result.start + result.length ≤ length archive.now }
+pub fn place(archive: &[u8], i: usize) -> Result<Span, Trouble>
+    ensures value { Lies result (place_of archive.now i) }
+    ensures within { IfOk result (λ s. s.start + s.length ≤ length archive.now) }
 {
-    let c = check(archive);
-    if c.number != 0 {
-        return nowhere(c.number, c.index);
-    }
-    if section_count(archive) <= i {
-        return nowhere(13, 0);
-    }
-    let start = word(archive, 8 + 8 * i);
-    let length = word(archive, 12 + 8 * i);
-    Place {
-        number: 0,
-        index: 0,
-        start,
-        length,
+    let accepted = Archive::accepted(archive)?;
+    match accepted.span(i) {
+        Some(span) => Ok(span),
+        None => Err(Trouble::from(Fault::NoSuchSection)),
     }
 }
 
-// Section i, as that part of the archive. The number and the index of a refusal are left in what the caller lends for them.
-pub fn section<'a, 'n, 'i>(
-    archive: &'a [u8],
-    i: usize,
-    number: &'n mut u64,
-    index: &'i mut usize,
-) -> &'a [u8]
-    ensures part { result.now ≡ section_at archive.now i }
-    ensures number { number.new ≡ (place_of archive.now i).number }
-    ensures index { index.new ≡ (place_of archive.now i).index }
+// Section i, as that part of the archive.
+pub fn section(archive: &[u8], i: usize) -> Result<&[u8], Trouble>
+    ensures { Lent result archive.now i }
 {
-    let p = place(archive, i);
-    *number = p.number;
-    *index = p.index;
-    let start = p.start;
-    let end = start + p.length;
-    &archive[start..end]
+    let span = place(archive, i)?;
+    let end = span.start + span.length;
+    Ok(&archive[span.start..end])
+}
+
+// What is found of an archive, and its entries: none where it is refused.
+fn read(archive: &[u8]) -> (Checked, &[[u8; 32]])
+    ensures { (result.0 ≡ checked archive.now) × (result.1.now ≡ entries_in archive.now) }
+{
+    match Archive::accepted(archive) {
+        Ok(accepted) => (Checked::from(Ok(())), accepted.entries()),
+        Err(trouble) => (Checked::from(Err(trouble)), &[]),
+    }
 }
 
 // The entries of an archive posted in order to a fresh ledger, old or new as the archive is.
 pub fn replay(archive: &[u8]) -> Replay
     ensures { result ≡ replayed archive.now }
 {
-    let c = check(archive);
-    let list = list_in(archive, c.number);
-    post_all(is_new(archive), list, c)
+    let (found, entries) = read(archive);
+    post_all(is_new(archive), entries, found)
 }
 
 // Accepted count, refused count and panel figure.
+#[tactic(auto, unfolding(crate::specs::Replay::figures_of))]
 pub fn figures(archive: &[u8]) -> Figures
     ensures { result ≡ figures_of archive.now }
 {
     let r = replay(archive);
-    let ledger = r.ledger;
-    let figure = ledger::panel(ledger).figure;
+    let figure = ledger::panel(r.ledger).figure;
     Figures {
         number: r.number,
         index: r.index,
@@ -146,9 +119,8 @@ pub fn figures(archive: &[u8]) -> Figures
 pub fn year_sheet(archive: &[u8], year: u64) -> [[Units; 12]; 16]
     ensures { result ≡ sheet_of archive.now year }
 {
-    let c = check(archive);
-    let list = list_in(archive, c.number);
-    sheet_of(is_new(archive), list, year)
+    let (_, entries) = read(archive);
+    sheet_of(is_new(archive), entries, year)
 }
 
 // R76, of every list and every archive: specs/RoundTrips.antt has both directions in words.

@@ -1,154 +1,132 @@
 // The reader: what is wrong with an archive, and where a section lies in it.
-ghost use Rattle.std.specs.Prelude.{◌≡◌, true, false, ◌+◌, ◌*◌, ◌%◌, ◌≤◌, ◌<◌, length};
-ghost use Rattle.archive.specs.Entries.{entries_of, first_refusal};
-ghost use Rattle.archive.specs.Reading.{section_count, wrong_header, right_directory, number_in, numbers_in, numbers_of, parts_of, nowhere, checked};
-ghost use Rattle.archive.specs.Replay.{list_in};
+ghost use Rattle.std.specs.Prelude.{◌≡◌, true, false, ◌+◌, ◌≤◌, ◌<◌, length, map, MatchOption, MatchResult};
+ghost use Rattle.archive.specs.Entries.{entries_of, finding};
+ghost use Rattle.archive.specs.Faults.{fault_number, Tells};
+ghost use Rattle.archive.specs.Reading.{section_count, wrong_header, right_directory, pair_at, pair_in, pairs_of, is_new, checked, list_of};
 
-use crate::entries::{Checked, closes_month};
+use crate::answers::Span;
+use crate::entries::{InSection, entries_of, first_fault};
+use crate::faults::{Fault, Trouble};
 use crate::opening::opens_as;
 use crate::sections::{MOST_BYTES, MOST_SECTIONS};
-use crate::words::{half, word};
+use crate::words::half;
 
-// Where a section lies in its archive.
-#[repr(C)]
-#[derive(Clone, Copy)]
-pub struct Place {
-    pub number: u64,
-    pub index: usize,
-    pub start: usize,
-    pub length: usize,
-}
-
-pub fn nowhere(number: u64, index: usize) -> Place
-    ensures { result ≡ nowhere number index }
-{
-    Place {
-        number,
-        index,
-        start: 0,
-        length: 0,
-    }
-}
-
-pub fn section_count(archive: &[u8]) -> usize
-    requires { 8 ≤ length archive.now }
-    ensures value { result ≡ section_count archive.now }
+#[tactic(auto, unfolding(crate::specs::Reading::section_count))]
+fn section_count(bytes: &[u8]) -> usize
+    requires { 8 ≤ length bytes.now }
+    ensures value { result ≡ section_count bytes.now }
     ensures bounded { result < 65536 }
 {
-    half(archive, 4)
+    usize::from(half(bytes, 4))
 }
 
 // Number 8.
-pub fn wrong_header(archive: &[u8]) -> bool
-    ensures { result ≡ wrong_header archive.now }
+fn wrong_header(bytes: &[u8]) -> bool
+    ensures { result ≡ wrong_header bytes.now }
 {
-    let n = archive.len();
+    let n = bytes.len();
     if n < 8 {
         return true;
     }
-    let count = section_count(archive);
+    let count = section_count(bytes);
     (MOST_BYTES < n)
-        | !(opens_as(false, archive) | opens_as(true, archive))
-        | !(archive[6] == 0)
-        | !(archive[7] == 0)
+        | !(opens_as(false, bytes) | opens_as(true, bytes))
+        | !(bytes[6] == 0)
+        | !(bytes[7] == 0)
         | (MOST_SECTIONS < count)
         | (n < 8 + 8 * count)
 }
 
-// What number 9 is about.
-pub fn right_directory(archive: &[u8]) -> bool
-    requires { wrong_header archive.now ≡ false }
-    ensures { result ≡ right_directory archive.now }
+// The directory, a pair for each section. It is asked before there is an Archive, so the right header is required of the bytes.
+fn pairs(bytes: &[u8]) -> &[[u8; 8]]
+    requires { wrong_header bytes.now ≡ false }
+    ensures pairs { map pair_in result.now ≡ pairs_of bytes.now }
+    ensures count { length result.now ≡ section_count bytes.now }
 {
-    let count = section_count(archive);
-    let mut end = 8 + 8 * count;
-    for i in 0..count {
-        let offset = word(archive, 8 + 8 * i);
-        let length = word(archive, 12 + 8 * i);
-        let right = (0 < length) & (length % 32 == 0);
-        if !((offset == end) & right) {
+    let end = 8 + 8 * section_count(bytes);
+    let (pairs, _) = bytes[8..end].as_chunks::<8>();
+    pairs
+}
+
+// What number 9 is about.
+fn right_directory(bytes: &[u8]) -> bool
+    requires { wrong_header bytes.now ≡ false }
+    ensures { result ≡ right_directory bytes.now }
+{
+    let mut end = 8 + 8 * section_count(bytes);
+    for pair in pairs(bytes) {
+        let span = Span::of(pair);
+        let whole = (0 < span.length) & (span.length % 32 == 0);
+        if !((span.start == end) & whole) {
             return false;
         }
-        end += length;
+        end += span.length;
     }
-    end == archive.len()
+    end == bytes.len()
 }
 
-// The number of an entry in its place: 2 to 7, then 10.
-fn number_in(is_new: bool, ends: bool, last: bool, entry: &[u8]) -> u64
-    requires { 0 < length entry.now }
-    ensures { result ≡ number_in is_new ends last entry.now }
-{
-    let number = ledger::entry_number(is_new, entry);
-    if number != 0 {
-        return number;
-    }
-    let closes = closes_month(entry);
-    let inside = closes & !ends;
-    let unclosed = !closes & ends & !last;
-    if inside | unclosed {
-        return 10;
-    }
-    0
+// An archive whose header and directory are right.
+#[derive(Clone, Copy)]
+pub struct Archive<'a> {
+    bytes: &'a [u8],
+    ghost headed: { wrong_header bytes.now ≡ false },
+    ghost directed: { right_directory bytes.now ≡ true },
 }
 
-// The first entry of a section that gets a number; the section's first entry has the index `first`.
-fn check_section(is_new: bool, section: &[u8], first: usize, last: bool) -> Checked
-    requires { (length section.now % 32 ≡ 0) × (first ≤ 1000000000000) }
-    ensures { result ≡ first_refusal first (numbers_in is_new last (entries_of section.now)) }
-{
-    let n = section.len() / 32;
-    for k in 0..n {
-        let at = 32 * k;
-        let end = at + 32;
-        let ends = k + 1 == n;
-        let number = number_in(is_new, ends, last, &section[at..end]);
-        if number != 0 {
-            return Checked {
-                number,
-                index: first + k,
-            };
+impl<'a> Archive<'a> {
+    // Numbers 8 and 9.
+    fn open(bytes: &'a [u8]) -> Result<Archive<'a>, Trouble>
+        ensures { MatchResult result (λ a. a.bytes.now ≡ bytes.now) (λ t. checked bytes.now ≡ finding (fault_number t.fault) t.index) }
+    {
+        if wrong_header(bytes) {
+            return Err(Trouble::from(Fault::WrongHeader));
         }
-    }
-    Checked {
-        number: 0,
-        index: 0,
-    }
-}
-
-// The first entry of the file that gets a number, the file being old or new.
-pub fn check_sections(is_new: bool, archive: &[u8]) -> Checked
-    requires { (wrong_header archive.now ≡ false) × (right_directory archive.now ≡ true) }
-    ensures { result ≡ first_refusal 0 (numbers_of is_new (parts_of archive.now)) }
-{
-    let count = section_count(archive);
-    let mut first = 0;
-    for i in 0..count {
-        let start = word(archive, 8 + 8 * i);
-        let length = word(archive, 12 + 8 * i);
-        let end = start + length;
-        let last = i + 1 == count;
-        let c = check_section(is_new, &archive[start..end], first, last);
-        if c.number != 0 {
-            return c;
+        if !right_directory(bytes) {
+            return Err(Trouble::from(Fault::WrongDirectory));
         }
-        first += length / 32;
+        Ok(Archive { bytes })
     }
-    Checked {
-        number: 0,
-        index: 0,
-    }
-}
 
-// The list in an archive whose number is known: all that follows the directory, or nothing where the archive is refused.
-pub fn list_in(archive: &[u8], number: u64) -> &[u8]
-    requires { number ≡ (checked archive.now).number }
-    ensures { result.now ≡ list_in archive.now }
-{
-    if number != 0 {
-        let end = archive.len();
-        return &archive[end..];
+    // Every check.
+    pub fn accepted(bytes: &'a [u8]) -> Result<Archive<'a>, Trouble>
+        ensures { MatchResult result (λ a. (a.bytes.now ≡ bytes.now) × (checked bytes.now ≡ finding 0 0)) (λ t. checked bytes.now ≡ finding (fault_number t.fault) t.index) }
+    {
+        let archive = Archive::open(bytes)?;
+        archive.check_sections()?;
+        Ok(archive)
     }
-    let body = 8 + 8 * section_count(archive);
-    &archive[body..]
+
+    // Numbers 2 to 7 and 10, of every entry.
+    fn check_sections(self) -> Result<(), Trouble>
+        ensures { Tells result (checked self.entry.bytes.now) }
+    {
+        let is_new = opens_as(true, self.bytes);
+        let mut first = 0;
+        for pair in pairs(self.bytes) {
+            let span = Span::of(pair);
+            let end = span.start + span.length;
+            let section = entries_of(&self.bytes[span.start..end]);
+            // The directory ends with the file, and no section is empty.
+            let last = end == self.bytes.len();
+            first_fault(InSection { is_new, last }, section, first)?;
+            first += section.len();
+        }
+        Ok(())
+    }
+
+    // Where section i lies.
+    pub fn span(self, i: usize) -> Option<Span>
+        ensures { MatchOption result (section_count self.entry.bytes.now ≤ i) (λ s. (i < section_count self.entry.bytes.now) × (s.start ≡ (pair_at self.entry.bytes.now i).0) × (s.length ≡ (pair_at self.entry.bytes.now i).1) × (s.start + s.length ≤ length self.entry.bytes.now)) }
+    {
+        let pair = pairs(self.bytes).get(i)?;
+        Some(Span::of(pair))
+    }
+
+    // All that follows the directory.
+    pub fn entries(self) -> &'a [[u8; 32]]
+        ensures { result.now ≡ entries_of (list_of self.entry.bytes.now) }
+    {
+        let body = 8 + 8 * section_count(self.bytes);
+        entries_of(&self.bytes[body..])
+    }
 }

@@ -1,7 +1,7 @@
 // Where a list of entries falls into sections.
-ghost use Rattle.std.specs.Prelude.{◌≡◌, [], ◌%◌, ◌<◌, length, get_or};
-ghost use Rattle.archive.specs.Entries.{entries_of};
-ghost use Rattle.archive.specs.Layout.{sections_of};
+ghost use Rattle.std.specs.Prelude.{◌≡◌, length};
+ghost use Rattle.std.specs.Iterator.{YieldsFirstBy, item_count};
+ghost use Rattle.archive.specs.Layout.{concatenated, sections_of};
 
 use crate::entries::closes_month;
 
@@ -9,34 +9,27 @@ pub const MOST_SECTIONS: usize = 1200;
 
 pub const MOST_BYTES: usize = 4294967295;
 
-// How many bytes the first section has.
-pub fn first_section(list: &[u8]) -> usize
-    requires { length list.now % 32 ≡ 0 }
-    ensures { result ≡ length (get_or (sections_of (entries_of list.now)) 0 []) }
-{
-    let n = list.len() / 32;
-    for k in 0..n {
-        let at = 32 * k;
-        let end = at + 32;
-        if closes_month(&list[at..end]) {
-            return end;
-        }
+// The sections of a list, each up to the entry that closes a month, or to the end.
+#[derive(Drop)]
+pub struct Sections<'a>(pub &'a [[u8; 32]]);
+
+impl<'a> Iterator for Sections<'a> {
+    type Item = &'a [[u8; 32]];
+
+    ghost next_gives = { YieldsFirstBy (λ section. concatenated section.now) (λ s. sections_of s.0.now) };
+
+    ghost remaining = { item_count (λ s. sections_of s.0.now) };
+
+    fn next(&mut self) -> Option<&'a [[u8; 32]]> {
+        let section = self.0.split_inclusive(|entry| closes_month(entry)).next()?;
+        let rest = &self.0[section.len()..];
+        self.0 = rest;
+        Some(section)
     }
-    list.len()
 }
 
-// How many sections there are.
-pub fn count_sections(list: &[u8]) -> usize
-    requires { length list.now % 32 ≡ 0 }
-    ensures { result ≡ length (sections_of (entries_of list.now)) }
+pub fn count_sections(entries: &[[u8; 32]]) -> usize
+    ensures { result ≡ length (sections_of entries.now) }
 {
-    let n = list.len();
-    let mut at = 0;
-    let mut count = 0;
-    while at < n {
-        let size = first_section(&list[at..]);
-        at += size;
-        count += 1;
-    }
-    count
+    Sections(entries).count()
 }

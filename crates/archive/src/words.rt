@@ -4,36 +4,27 @@ ghost use Rattle.std.proofs.Math.Seq.{paste};
 ghost use Rattle.ledger.specs.Entries.{half_at, word_at};
 ghost use Rattle.archive.specs.Words.{bytes_of};
 
-fn wide(b: u8) -> usize
-    ensures { (result ≡ b) × (result < 256) }
-{
-    b as usize
-}
-
-pub fn half(bytes: &[u8], at: usize) -> usize
+pub fn half(bytes: &[u8], at: usize) -> u16
     requires { at + 2 ≤ length bytes.now }
-    ensures value { result ≡ half_at bytes.now at }
-    ensures bounded { result < 65536 }
+    ensures { result ≡ half_at bytes.now at }
 {
-    wide(bytes[at]) + 256 * wide(bytes[at + 1])
+    u16::from_le_bytes([bytes[at], bytes[at + 1]])
 }
 
+// A cast, as there is no From of a u32 for usize.
 pub fn word(bytes: &[u8], at: usize) -> usize
     requires { at + 4 ≤ length bytes.now }
     ensures value { result ≡ word_at bytes.now at }
     ensures bounded { result < 4294967296 }
 {
-    wide(bytes[at])
-        + 256 * (wide(bytes[at + 1]) + 256 * (wide(bytes[at + 2]) + 256 * wide(bytes[at + 3])))
+    u32::from_le_bytes([bytes[at], bytes[at + 1], bytes[at + 2], bytes[at + 3]]) as usize
 }
 
-// Stores a number in the four bytes at a place.
+// Stores a number in the four bytes at a place. The cast is proved to lose nothing.
 pub fn put_word(out: &mut [u8], at: usize, n: usize)
-    requires { at + 4 ≤ length out.old }
+    requires { (at + 4 ≤ length out.old) × (n < 4294967296) }
     ensures { out.new ≡ paste out.old at (bytes_of 4 n) 4 }
 {
-    out[at] = (n % 256) as u8;
-    out[at + 1] = (n / 256 % 256) as u8;
-    out[at + 2] = (n / 256 / 256 % 256) as u8;
-    out[at + 3] = (n / 256 / 256 / 256 % 256) as u8;
+    let end = at + 4;
+    out[at..end].copy_from_slice(&(n as u32).to_le_bytes());
 }

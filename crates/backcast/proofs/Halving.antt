@@ -1,11 +1,11 @@
 -- A number is found between two whole numbers, low not above it and high + 1 above it, by halving what lies between.
-use Prim.Native.Nat.{ℕ, ◌+◌, ◌-◌, ◌*◌, ◌/◌, ◌≤◌, ◌<◌, ◌^◌}
+use Prim.Native.Nat.{ℕ, ◌+◌, ◌-◌, ◌*◌, ◌/◌, ◌≤◌, ◌<◌}
 use native.Mathlib.Nat.{div-eq_of_lt-le}
 use native.Mathlib.Omega.{arith}
 use mathlib.Core.Bool.{true, false}
 use mathlib.Core.Path.{◌≡◌, ◌∙◌, sym, subst}
 use borrow.Author.Tests.{leb-false, leb-true}
-use lib.Dec.{T, leb, le→leb}
+use lib.Dec.{leb}
 use lib.IntN.{nat_abs, pos}
 use lib.Ieee as Ieee
 use lib.Ieee.{Float, binary64}
@@ -67,8 +67,3 @@ met x low high b h =
     let o = b.ordered in
     let e : high ≡ low = omega arith in
     sym (div-eq_of_lt-le (denominator x) b.not_above (subst (λ (k : ℕ). nat_abs (numerator x) < (k + 1) * denominator x) e b.next_is_above))
-
--- every number that is tried is a double
-pub tried : (low high : ℕ) → high ≤ 1000000000 → T (Ieee.in_float binary64 (pos (high - (high - low) / 2)))
-unfolding Ieee.in_float
-tried low high m = le→leb (high - (high - low) / 2) (2 ^ 53) (omega arith)

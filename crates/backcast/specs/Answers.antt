@@ -1,8 +1,9 @@
 -- R91: the back-cast, or why there is none.
-use Rattle.std.specs.Prelude.{ℕ, ◌*◌, ◌/◌, pos, nat_abs, Bool, cond, ◌&&◌, Float}
+use Rattle.std.specs.Prelude.{ℕ, ◌*◌, ◌/◌, pos, nat_abs, Bool, cond, ◌&&◌, Float, Result, Ok, Err}
 use Rattle.std.specs.Int.Signed.{le_z}
 use Rattle.tariff.specs.Bounds.{most_units}
-use Rattle.backcast.specs.Structs.{BackCast, LoadCurve}
+use Rattle.backcast.specs.Structs.{BackCast, LoadCurve, NoBackCast, Quantity}
+use Rattle.backcast.specs.declared.answers.NoBackCast.TheVariants as no
 use Rattle.backcast.specs.Doubles.{is_number, numerator, denominator}
 use Rattle.backcast.specs.Load.{all_numbers, load_of}
 
@@ -27,3 +28,12 @@ back_cast curve f =
     cond (all_numbers curve f)
     (cond (is_quantity (load_of curve f)) (accepted (whole_part (load_of curve f))) (refused 32))
     (refused 31)
+
+-- R91: the number of each reason, and what a quantity or the reason why there is none is answered.
+unfoldable pub number : NoBackCast → ℕ
+number no.NotANumber = 31
+number no.NoQuantity = 32
+
+unfoldable pub answered : Result Quantity NoBackCast → BackCast
+answered (Ok q) = accepted q.0
+answered (Err r) = refused (number r)

@@ -3,14 +3,11 @@ ghost use Rattle.std.specs.Prelude.{◌≡◌, true};
 ghost use Rattle.backcast.specs.Doubles.{is_number};
 ghost use Rattle.backcast.specs.Answers.{is_quantity, whole_part};
 
-use tariff::bounds::MOST_UNITS;
-
 // Neither an infinity nor not-a-number.
 pub fn is_number(x: f64) -> bool
     ensures { result ≡ is_number x }
 {
-    let infinity = 1.0 / 0.0;
-    (-infinity < x) & (x < infinity)
+    x.is_finite()
 }
 
 // A number from 0 to 10^9.
@@ -20,20 +17,21 @@ pub fn is_quantity(x: f64) -> bool
     (0.0 <= x) & (x <= 1000000000.0)
 }
 
-// The greatest whole number not above x, by halving what it can be: no cast has to round.
+// The greatest whole number not above x, by halving what it can be. No iterator halves, and std's cast of a double goes by its bits, which would be
+// one more thing to believe (docs/DECISIONS.md, 117).
 pub fn whole_part(x: f64) -> u64
     requires { is_quantity x ≡ true }
     ensures { result ≡ whole_part x }
 {
-    let mut low: u64 = 0;
-    let mut high: u64 = MOST_UNITS;
+    let mut low: u32 = 0;
+    let mut high: u32 = 1000000000;
     while low < high {
         let middle = high - (high - low) / 2;
-        if middle as f64 <= x {
+        if f64::from(middle) <= x {
             low = middle;
         } else {
             high = middle - 1;
         }
     }
-    low
+    u64::from(low)
 }

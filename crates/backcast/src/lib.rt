@@ -11,29 +11,15 @@ ghost use Rattle.backcast.specs.GreatestWhole.{EveryAnswer, OnlyOne};
 ghost use Rattle.backcast.specs.ExactCase.{WholeNumbersAreDoubles, WholeNumbersAreExact};
 ghost use Rattle.backcast.specs.WorkedCases.{WorkedCases};
 
-use crate::answers::refused;
-use crate::doubles::{is_quantity, whole_part};
-use tariff::amounts::Quantity;
-
-// The types that cross the boundary; the functions that do stand below, and none of them requires anything.
-pub use answers::BackCast;
+// The types that cross the boundary, and why there is no back-cast; the functions that cross it stand below, and none of them requires anything.
+pub use answers::{BackCast, NoBackCast};
 pub use curves::LoadCurve;
 
 // The back-cast at temperature f; 31 where one of the four is no number, 32 where the load is no quantity of gas.
 pub fn back_cast(curve: LoadCurve, f: f64) -> BackCast
     ensures { result ≡ back_cast curve f }
 {
-    if !curve.numbers(f) {
-        return refused(31);
-    }
-    let load = curve.load(f);
-    if !is_quantity(load) {
-        return refused(32);
-    }
-    BackCast {
-        number: 0,
-        quantity: Quantity(whole_part(load)),
-    }
+    BackCast::from(curve.quantity(f))
 }
 
 // Its answer is the load rounded down: the one n with n ≤ load < n + 1.

@@ -13,7 +13,7 @@ use Rattle.tariff.specs.Dates.{last_of_month}
 use Rattle.tariff.specs.Holidays.{on_measurement_day}
 use Rattle.tariff.proofs.Bools.{either, parts}
 use Rattle.tariff.proofs.Forfeits.{forfeit_stays}
-use Rattle.ledger.specs.Structs.{Account, Change, Closed, Entry, Kind, Ledger, Posted, Terms}
+use Rattle.ledger.specs.Structs.{Account, Change, Closed, Entry, Uses, Ledger, Posted, Terms}
 use Rattle.ledger.specs.Checks.{Check, verdict}
 use Rattle.ledger.specs.Kinds.{kind_of, lookup, version}
 use Rattle.ledger.specs.Entries.{day_named, entry_of, prices_of}
@@ -38,7 +38,7 @@ use Rattle.ledger.proofs.OldLedgers.{month_reported, none_named}
 same_since : (kind : ℕ) → (OnlyNew kind → ⊥) → leb (kind_of kind).since 2 ≡ leb (kind_of kind).since 1
 unfolding kind_of
 same_since kind =
-    each (λ (k : Kind). (OnlyNew kind → ⊥) → leb k.since 2 ≡ leb k.since 1) kind _
+    each (λ (k : Uses). (OnlyNew kind → ⊥) → leb k.since 2 ≡ leb k.since 1) kind _
     ((λ _ _. refl) then (λ _ _. refl) then (λ _ _. refl) then (λ _ _. refl) then (λ _ _. refl) then (λ _ _. refl) then (λ _ _. refl) then (λ _ _. refl) then (λ _ _. refl)
     then (λ is d. absurd (d (inl is)))
     then (λ is d. absurd (d (inr is)))

@@ -65,6 +65,55 @@ bounded a h =
       days = leb-true a.violation_days 40000 (search parts depth 9);
     }
 
+-- one by one, for what finds a bound by itself
+module _ (a : Account) (h : account_in_range a ≡ true) where
+  pub bank_fits : size a.bank ≤ 100000000000
+  bank_fits = (bounded a h).bank
+
+  pub net_fits : size a.month.totals.net ≤ 100000000000
+  net_fits = (bounded a h).totals.net
+
+  pub sales_fits : a.month.totals.sales.0 ≤ 100000000000
+  sales_fits = (bounded a h).totals.sales
+
+  pub purchases_fits : a.month.totals.purchases.0 ≤ 100000000000
+  purchases_fits = (bounded a h).totals.purchases
+
+  pub cash_ins_fits : a.month.totals.cash_ins.0 ≤ 100000000000
+  cash_ins_fits = (bounded a h).totals.cash_ins
+
+  pub cash_outs_fits : a.month.totals.cash_outs.0 ≤ 100000000000
+  cash_outs_fits = (bounded a h).totals.cash_outs
+
+  pub usage_fits : a.month.totals.usage.0 ≤ 100000000
+  usage_fits = (bounded a h).totals.usage
+
+  pub over_fits : a.step.over ≤ 2
+  over_fits = (bounded a h).over
+
+  pub under_fits : a.step.under ≤ 2
+  under_fits = (bounded a h).under
+
+  pub mdq_fits : a.mdq.0 ≤ 300000
+  mdq_fits = (bounded a h).mdq
+
+  pub mddq_fits : a.capacity.mddq.0 ≤ 300000
+  mddq_fits = (bounded a h).mddq
+
+  pub bcq_fits : a.capacity.bcq.0 ≤ 30000000
+  bcq_fits = (bounded a h).bcq
+
+  pub carry_fits : a.carry.0 ≤ 100000000000
+  carry_fits = (bounded a h).carry
+
+  pub owed_fits : size_mills a.owed ≤ 1000000000000000
+  owed_fits = (bounded a h).owed
+
+  pub days_fits : a.violation_days ≤ 40000
+  days_fits = (bounded a h).days
+
+pub ruleset bounds = (bank_fits, net_fits, sales_fits, purchases_fits, cash_ins_fits, cash_outs_fits, usage_fits, over_fits, under_fits, mdq_fits, mddq_fits, bcq_fits, carry_fits, owed_fits, days_fits)
+
 -- of an open account also its steps
 pub record Stepped (a : Account) : Type 0 where
   pub k : (1 ≤ a.step.k) × (a.step.k ≤ 100)
@@ -83,6 +132,12 @@ stepped a h o =
       k = (leb-true 1 a.step.k (search parts), leb-true a.step.k 100 (search parts));
       pending = (leb-true 1 a.step.pending (search parts), leb-true a.step.pending 100 (search parts));
     }
+
+pub k_fits : (a : Account) → account_in_range a ≡ true → a.opened ≡ true → a.step.k ≤ 100
+k_fits a h o = (stepped a h o).k.1
+
+pub pending_fits : (a : Account) → account_in_range a ≡ true → a.opened ≡ true → a.step.pending ≤ 100
+pending_fits a h o = (stepped a h o).pending.1
 
 -- ---- a ledger in range, by its three parts
 

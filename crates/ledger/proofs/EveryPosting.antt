@@ -25,7 +25,7 @@ use Rattle.ledger.specs.Holiday.{post_holiday}
 use Rattle.ledger.specs.Posting.{admission, post_several, change_of, stored, post_kind, post_entry, posted}
 use Rattle.ledger.specs.Structs.{Account, Change, Entry, Ledger}
 use Rattle.ledger.proofs.RightEntries.{a_fits}
-use Rattle.ledger.proofs.Admitted.{is_right}
+use Rattle.ledger.proofs.Admissions.{is_right}
 use Rattle.ledger.proofs.KindCases.{done, ◌then◌, each}
 use Rattle.ledger.proofs.OneStep.{Sound, Step, step_refused, step_settle}
 use Rattle.ledger.proofs.StepKinds.{takes_terms, takes_enrol, takes_deliver, takes_transfer, takes_trade, takes_measure, takes_usage, takes_confiscated, takes_holiday}

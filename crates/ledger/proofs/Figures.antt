@@ -1,20 +1,15 @@
 -- The panel of a sound ledger shows its open banks, one for each account from the first on; what stands at a place of the accounts is the account there.
 use Prim.Native.Nat.{ℕ, zero, suc, ◌≤◌, ◌<◌}
 use mathlib.Core.Path.{◌≡◌, refl}
-use mathlib.Core.Bool.{cond, false}
+use mathlib.Core.Bool.{false}
 use mathlib.Core.List.{List, [], ◌∷◌}
 use lib.IntN.{pos, ◌+ℤ◌}
 use native.Mathlib.Omega.{arith}
 use lib.ListN.{get_or, length, get_or-eq_default}
-use Rattle.ledger.specs.Ranges.{in_range}
 use Rattle.ledger.specs.State.{nobody, no_totals, no_month, no_today, account_at}
 use Rattle.ledger.specs.Panel.{open_bank, bank_of, open_banks, panel_of}
 use Rattle.ledger.specs.Structs.{Account, Ledger}
 use Rattle.ledger.proofs.OneStep.{Sound}
-
-pub panel_number : (l : Ledger) → (panel_of l).number ≡ cond (in_range l) 0 20
-unfolding panel_of
-panel_number l = refl
 
 pub panel_of_sound : (l : Ledger) → Sound l → panel_of l ≡ record { number = 0; figure = record { 0 = open_banks l.accounts } }
 unfolding panel_of

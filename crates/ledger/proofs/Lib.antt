@@ -1,12 +1,14 @@
 -- The lemmas that more than one function's proof uses, and those that the crates above use.
+pub mod Refused
+pub mod RefusalNumbers
 pub mod Verdicts
 pub mod Lists
 pub mod Bounded
 pub mod KindCases
 pub mod RightEntries
-pub mod Admitted
+pub mod Admissions
 pub mod OneAccount
-pub mod Closable
+pub mod TwoAccounts
 pub mod Banks
 pub mod ClosedSoFar
 pub mod ClosedAccounts

@@ -7,8 +7,9 @@ use native.Mathlib.Numerals.{add-one}
 use native.Mathlib.Omega.{arith}
 use lib.ListN.{length, drop, take, get_or, set, drop_of_length-le}
 use lib.Seq.{drop-cons, take_all}
-use Rattle.tariff.proofs.Bools.{and_left, and_right}
 pub use Rattle.tariff.proofs.Arrays.{length_mapped}
+use Rattle.std.specs.List.{list_all}
+use Rattle.std.proofs.lemmas.List.Recursion.{and_at, and_set, same_from_clauses}
 use Rattle.ledger.specs.Ranges.{every_account}
 use Rattle.ledger.specs.Structs.{Account, Ledger}
 
@@ -29,15 +30,16 @@ module _ (p : Account → Bool) where
 
   pub every_at : (xs : List Account) (i : ℕ) (d : Account) → i < length xs → every_account p xs ≡ true → p (get_or xs i d) ≡ true
   unfolding every_account
-  every_at [] i d h e = absurd (omega arith)
-  every_at (x ∷ xs) zero d h e = and_left (p x) (every_account p xs) e
-  every_at (x ∷ xs) (suc i) d h e = every_at xs i d (omega arith) (and_right (p x) (every_account p xs) e)
+  every_at = and_at (every_account p) p refl (λ _ _. refl)
 
-  pub every_set : (xs : List Account) (i : ℕ) (v : Account) → every_account p xs ≡ true → p v ≡ true → every_account p (set xs i v) ≡ true
+  pub every_set : (xs : List Account) (i : ℕ) (v : Account) → p v ≡ true → every_account p xs ≡ true → every_account p (set xs i v) ≡ true
   unfolding every_account
-  every_set [] i v e h = e
-  every_set (x ∷ xs) zero v e h = rw h (and_right (p x) (every_account p xs) e)
-  every_set (x ∷ xs) (suc i) v e h = rw (and_left (p x) (every_account p xs) e) (every_set xs i v (and_right (p x) (every_account p xs) e) h)
+  every_set = and_set (every_account p) p refl (λ _ _. refl)
+
+  -- the same test as std's
+  pub every_is_all : (xs : List Account) → every_account p xs ≡ list_all p xs
+  unfolding every_account
+  every_is_all = same_from_clauses (every_account p) (list_all p) (λ x b. p x && b) refl (λ _ _. refl) (λ _ _. refl)
 
 -- the ledger with other accounts, and nothing else changed
 abbrev pub with_accounts : Ledger → List Account → Ledger
@@ -70,3 +72,13 @@ module _ {A B : Type 0} (f : A → B) where
 
   pub filled_end : (xs : List A) (ys : List B) (i : ℕ) → length xs ≤ i → length ys ≤ i → filled xs ys i ≡ map f xs
   filled_end xs ys i h k = rw (take_all i xs h, drop_of_length-le ys k) (append-nil (map f xs))
+
+-- an element that a loop has not reached is as it came
+pub ahead : {A : Type 0} (f : A → A) (xs : List A) (i : ℕ) (d : A) → i < length xs → get_or (filled f xs xs i) i d ≡ get_or xs i d
+ahead f [] i d h = absurd (omega arith)
+ahead f (x ∷ xs) zero d h = refl
+ahead f (x ∷ xs) (suc i) d h = ahead f xs i d (omega arith)
+
+-- a loop that writes f of each element in its place
+pub written : {A : Type 0} (f : A → A) (xs ys : List A) (i : ℕ) (d : A) → i < length xs → ys ≡ filled f xs xs i → set ys i (f (get_or ys i d)) ≡ filled f xs xs (i + 1)
+written f xs ys i d h p = rw (p, ahead f xs i d h) (filled_next f xs xs i d refl h)

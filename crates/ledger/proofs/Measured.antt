@@ -28,7 +28,7 @@ use Rattle.ledger.specs.Ranges.{every_account, in_range}
 use Rattle.ledger.specs.State.{account_at, fresh, held_in, with_holidays}
 use Rattle.ledger.specs.Structs.{Date, Entry, Ledger, Posted, Holidays}
 use Rattle.ledger.specs.Transfer.{giver, post_transfer, receiver, transfer_checks}
-use Rattle.ledger.proofs.Admitted.{is_begun, is_ranged, is_today}
+use Rattle.ledger.proofs.Admissions.{is_begun, is_ranged, is_today}
 use Rattle.ledger.proofs.Bounded.{begun_ranged, ranged_parts}
 use Rattle.ledger.proofs.EveryPosting.{step}
 use Rattle.ledger.proofs.FreshLedger.{fresh_sound}

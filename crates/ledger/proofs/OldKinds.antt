@@ -14,7 +14,7 @@ use Rattle.ledger.specs.Forms.{entry_checks, entry_number, form_number}
 use Rattle.ledger.specs.OldAndNew.{is_old_kind}
 use Rattle.ledger.specs.Posting.{admission, post_entry, posted}
 use Rattle.ledger.specs.Answers.{refused}
-use Rattle.ledger.specs.Structs.{Kind, Ledger}
+use Rattle.ledger.specs.Structs.{Uses, Ledger}
 use Rattle.ledger.proofs.KindCases.{done, each, ◌then◌}
 
 within : (kind : ℕ) → 1 ≤ kind → kind ≤ 9 → is_old_kind kind ≡ true
@@ -28,7 +28,7 @@ module _ (kind : ℕ) (h : is_old_kind kind ≡ false) where
   pub later : leb (kind_of kind).since 1 ≡ false
   unfolding kind_of
   later =
-      each (λ (k : Kind). leb k.since 1 ≡ false) kind _
+      each (λ (k : Uses). leb k.since 1 ≡ false) kind _
       ((λ is. absurd (isnt 1 (omega arith) (omega arith) is))
       then (λ is. absurd (isnt 2 (omega arith) (omega arith) is))
       then (λ is. absurd (isnt 3 (omega arith) (omega arith) is))

@@ -7,7 +7,7 @@ use mathlib.Core.List.{List, [], ◌∷◌}
 use native.Mathlib.Omega.{arith}
 use lib.Dec.{eqb, leb}
 use lib.ListN.{length, get_or, set}
-use borrow.Author.Tests.{eq-eqb, eqb-false, eqb-true, ne_eqb}
+use borrow.Author.Tests.{eqb-false, eqb-true, ne_eqb}
 use Rattle.tariff.specs.Dates.{day_after}
 use Rattle.tariff.specs.Holidays.{held_dates}
 use Rattle.tariff.proofs.Bools.{and_right, either}
@@ -333,7 +333,7 @@ module _ (l : Ledger) (e : Entry) (i : ℕ) (nine : e.kind ≡ 9) (o : (account_
 
   as_month : closing_of l.is_new l.terms e (account_at l i) ≡ month_closing l.is_new e.date l.terms (prices_of e) (account_at l i)
   unfolding closing_of lookup
-  as_month = cc (o, ne_eqb e.kind 8 (λ z. omega (arith, z, nine)), eq-eqb e.kind 9 nine)
+  as_month = cc o
 
   reported_forfeit : (report_of l.is_new l.terms e (account_at l i)).forfeit.0 ≡ cond l.is_new (min (account_at l i).today.confiscation.0 due) due
   unfolding report_of month_closing forfeit_at excess_in

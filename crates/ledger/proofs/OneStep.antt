@@ -84,7 +84,7 @@ module _ (l : Ledger) (a : ℕ) (v : Account) (n : length l.accounts ≡ 16) (h 
   unfolding with_account
   ranged_stored r w =
       let p = ranged_parts l r in
-      ranged_whole (with_account l a v) (record { dated = p.dated; held = p.held; accounts = every_set account_in_range l.accounts a v p.accounts w })
+      ranged_whole (with_account l a v) (record { dated = p.dated; held = p.held; accounts = every_set account_in_range l.accounts a v w p.accounts })
 
   -- a number of the account that grew by y
   pub grown : (f : Account → ℤ) (y : ℤ) → f v ≡ f (account_at l a) +ℤ y → (i : ℕ) → f (account_at (with_account l a v) i) ≡ f (account_at l i) +ℤ cond (eqb a i) y (pos 0)

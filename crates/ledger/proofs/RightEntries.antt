@@ -77,10 +77,6 @@ module _ (e : Entry) (h : field_number e ≡ 0) where
   unfolding words_in_range lookup
   trade_fits k = units_fit e.w1 (rw k at words_fit)
 
-  pub measure_fits : e.kind ≡ kinds.MEASURE → e.w1 ≤ 300000
-  unfolding words_in_range lookup
-  measure_fits k = leb-true e.w1 300000 (rw k at words_fit)
-
   pub prices_fit : e.kind ≡ kinds.CLOSE_MONTH → prices_in_range (prices_of e) ≡ true
   unfolding words_in_range lookup prices_of
   prices_fit k = rw k at words_fit

@@ -27,7 +27,7 @@ use Rattle.ledger.specs.Posting.{admission}
 use Rattle.ledger.specs.Panel.{open_bank, bank_of}
 use Rattle.ledger.proofs.Verdicts.{clear}
 use Rattle.ledger.proofs.Bounded.{begun_ranged, ranged_parts, ranged_whole}
-use Rattle.ledger.proofs.Admitted.{is_begun, is_day, is_real_lem}
+use Rattle.ledger.proofs.Admissions.{is_begun, is_day, is_real_lem}
 use Rattle.ledger.proofs.ClosedAccounts.{open_owed, open_days, report_moves, report_days, accounted, account_closed, account_reported}
 use Rattle.ledger.proofs.OneStep.{Sound, Taken, Step, gain_at, report_at}
 

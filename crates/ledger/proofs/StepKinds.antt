@@ -23,7 +23,7 @@ use Rattle.ledger.specs.Answers.{plain}
 use Rattle.ledger.specs.Terms.{reworked, terms_next, terms_checks}
 use Rattle.ledger.specs.Enrol.{new_account, enrolled, enrol_checks}
 use Rattle.ledger.specs.Deliver.{delivered, amount_under, after_delivery, deliver_checks}
-use Rattle.ledger.specs.Transfer.{giver, receiver, transfer_checks}
+use Rattle.ledger.specs.Transfer.{giver, receiver, handing_checks, transfer_checks}
 use Rattle.ledger.specs.Trade.{booked, traded}
 use Rattle.ledger.specs.Measure.{remeasured, after_measure, measure_checks}
 use Rattle.ledger.specs.Usage.{metered, after_usage, usage_checks}
@@ -34,7 +34,7 @@ use Rattle.ledger.specs.Panel.{open_bank, bank_of}
 use Rattle.ledger.proofs.Verdicts.{first, clear}
 use Rattle.ledger.proofs.NamedDays.{holding_ranged}
 use Rattle.ledger.proofs.RightEntries.{a_fits, b_fits, transfer_fits}
-use Rattle.ledger.proofs.Admitted.{is_begun, is_right}
+use Rattle.ledger.proofs.Admissions.{is_begun, is_right}
 use Rattle.ledger.proofs.ClosedAccounts.{open_owed, open_days, grows}
 use Rattle.ledger.proofs.OneStep.{Sound, Taken, gain_at, same_debt, same_days, leaves, stores, pairs}
 use Rattle.ledger.proofs.Moving.{Moved, gives, takes}
@@ -189,7 +189,7 @@ module _ (l : Ledger) (e : Entry) (s : Sound l) (h : admission l e ≡ 0) where
 
   pub takes_transfer : e.kind ≡ kinds.TRANSFER → verdict (transfer_checks l e) ≡ 0
       → Taken l e (plain 0) (with_account (with_account l e.a (giver l e).account) e.b (receiver l e).account)
-  unfolding transfer_checks kind_of lookup giver receiver
+  unfolding transfer_checks handing_checks kind_of lookup giver receiver
   takes_transfer is o =
       let two : (kind_of e.kind).accounts ≡ 2 = rw is in
       let right = is_right l e h in

@@ -2,7 +2,7 @@
 -- within its range.
 use Prim.Native.Nat.{ℕ, ◌+◌, ◌*◌, ◌/◌, ◌%◌, ◌<◌}
 use mathlib.Core.Path.{◌≡◌, refl, sym, ◌∙◌}
-use mathlib.Core.Bool.{Bool, true, false, cond, ◌&&◌}
+use mathlib.Core.Bool.{Bool, true, false, cond, not, ◌&&◌, ◌||◌}
 use mathlib.Core.List.{List, [], ◌∷◌, ◌++◌}
 use native.Mathlib.Nat.{div-div-eq-div-mul}
 use native.Mathlib.Omega.{arith}
@@ -28,8 +28,8 @@ use Rattle.ledger.specs.Posting.{admission, post_entry, post_kind, post_several,
 use Rattle.ledger.specs.Ranges.{account_in_range, in_range}
 use Rattle.ledger.specs.State.{account_at, with_bank}
 use Rattle.ledger.specs.Structs.{Account, Date, Entry, Ledger, Units}
-use Rattle.ledger.specs.Transfer.{giver, post_transfer, receiver, transfer_checks}
-use Rattle.ledger.proofs.Admitted.{is_begun, is_ranged, is_right}
+use Rattle.ledger.specs.Transfer.{giver, post_transfer, receiver, handing_checks, transfer_checks}
+use Rattle.ledger.proofs.Admissions.{is_begun, is_ranged, is_right}
 use Rattle.ledger.proofs.Bounded.{account_ranged, begun_ranged, bounded}
 use Rattle.ledger.proofs.RightEntries.{a_fits, b_fits, transfer_fits, transfer_units}
 use Rattle.ledger.proofs.Verdicts.{clear}
@@ -119,11 +119,11 @@ module _ (l : Ledger) (s j q : ℕ) where
 
   module _ (h : admission l e ≡ 0) (v : verdict (transfer_checks l e) ≡ 0) where
     opened_both : (account_at l s).opened && (account_at l j).opened ≡ true
-    unfolding transfer_checks
+    unfolding transfer_checks handing_checks giver receiver
     opened_both = not-false ((account_at l s).opened && (account_at l j).opened) (clear _ refl v 0)
 
     numbers_zero : eqb (giver l e).number 0 && eqb (receiver l e).number 0 ≡ true
-    unfolding transfer_checks
+    unfolding transfer_checks handing_checks giver receiver
     numbers_zero = not-false (eqb (giver l e).number 0 && eqb (receiver l e).number 0) (clear _ refl v 2)
 
     gave : (giver l e).number ≡ 0
@@ -222,9 +222,13 @@ module _ (l : Ledger) (s j q : ℕ) where
     unfolding receiver taking taking_checks verdict
     took_well = rw takes_within (unfold after_taking with_bank in rw t.fits)
 
+    checks : verdict (transfer_checks l e) ≡ cond (not ((account_at l s).opened && (account_at l j).opened)) 24
+        (cond (eqb (giver l e).number 28 || eqb (receiver l e).number 28) 28 (cond (not (eqb (giver l e).number 0 && eqb (receiver l e).number 0)) 29 0))
+    unfolding transfer_checks handing_checks giver receiver verdict
+    checks = refl
+
     moved : verdict (transfer_checks l e) ≡ 0
-    unfolding transfer_checks verdict
-    moved = rw (t.gives, t.takes, gave_well, took_well)
+    moved = checks ∙ rw (t.gives, t.takes, gave_well, took_well)
 
   pub accepted_if : length l.accounts ≡ 16 → q < 4294967296 → Transferable l s j q → (posted l bytes).answer.number ≡ 0
   accepted_if size w t = transfer_number (begun_ranged l t.ranged t.begun).0 w ∙ rw (admitted size t, moved size t)

@@ -1,6 +1,8 @@
 -- An entry: its bytes taken apart, and what its words and flags mean.
-use Rattle.std.specs.Prelude.{ℕ, ◌+◌, ◌*◌, ◌%◌, Bool, eqb, leb, List, get_or}
+use Rattle.std.specs.Prelude.{◌≡◌, ◌≢◌, ℕ, ◌+◌, ◌*◌, ◌%◌, Bool, eqb, leb, List, get_or, length, Result, MatchResult}
 use Rattle.ledger.specs.Structs.{Date, Entry, Prices, Terms}
+use Rattle.ledger.specs.declared.refusals.Refusal.{Refusal}
+use Rattle.ledger.specs.declared.refusals.Refusal.TheVariants as refusal
 use Rattle.tariff.specs.Terms.{terms_from}
 
 -- ---- the bytes taken apart
@@ -31,6 +33,10 @@ entry_of bytes =
       w5 = word_at bytes 24;
       w6 = word_at bytes 28;
     }
+
+-- R15: what bytes of any length hold: an entry, or a wrong length.
+abbrev pub Reads : List ℕ → Result Entry Refusal → Type 0
+Reads bytes r = MatchResult r (λ e. (length bytes ≡ 32) × (e ≡ entry_of bytes)) (λ f. (f ≡ refusal.WrongLength) × (length bytes ≢ 32))
 
 -- ---- what words and flags mean
 

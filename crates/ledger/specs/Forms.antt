@@ -1,6 +1,6 @@
 -- What is wrong with an entry by itself: numbers 1 to 7.
 use Rattle.std.specs.Prelude.{ℕ, Bool, true, false, cond, not, ◌&&◌, ◌||◌, eqb, leb, ltb, List, [], ◌∷◌, length}
-use Rattle.ledger.specs.Structs.{Entry, Kind}
+use Rattle.ledger.specs.Structs.{Entry, Uses}
 use Rattle.tariff.specs.Bounds.{most_units, most_mdq, most_mcf}
 use Rattle.tariff.specs.Dates.{real}
 use Rattle.tariff.specs.Terms.{terms_in_range}
@@ -10,11 +10,11 @@ use Rattle.ledger.specs.Kinds as kinds
 use Rattle.ledger.specs.Entries.{entry_of, terms_of, prices_of}
 
 -- R15, number 4: an account that the kind uses is none of the sixteen.
-unfoldable pub account_too_high : Kind → Entry → Bool
+unfoldable pub account_too_high : Uses → Entry → Bool
 account_too_high k e = (leb 1 k.accounts && leb 16 e.a) || (leb 2 k.accounts && leb 16 e.b)
 
 -- R15, number 5: what a kind does not use is 0, so that one event has only one entry.
-unfoldable pub unused_set : Kind → Entry → Bool
+unfoldable pub unused_set : Uses → Entry → Bool
 unused_set k e =
     (ltb k.accounts 1 && not (eqb e.a 0))
     || (ltb k.accounts 2 && not (eqb e.b 0))

@@ -1,6 +1,7 @@
 -- Giving and taking gas: one account's side of it, whoever is on the other.
 use Rattle.std.specs.Prelude.{not, List, [], ◌∷◌}
-use Rattle.ledger.specs.Structs.{Account, Change, Month, Quantity}
+use Rattle.ledger.specs.Structs.{Account, Change, Month, Quantity, Side}
+use Rattle.ledger.specs.declared.gas.Side.TheVariants as side
 use Rattle.tariff.specs.Amounts.{more, less}
 use Rattle.tariff.specs.Limits.{above_maximum, below_minimum}
 use Rattle.ledger.specs.Checks.{Check, verdict}
@@ -28,3 +29,8 @@ giving m a q = record { number = verdict (giving_checks m a q); account = after_
 
 unfoldable pub taking : Month → Account → Quantity → Change
 taking m a q = record { number = verdict (taking_checks m a q); account = after_taking a q }
+
+-- R37 and R38: one of them, by the account's side.
+abbrev pub moving : Side → Month → Account → Quantity → Change
+moving side.Gives m a q = giving m a q
+moving side.Takes m a q = taking m a q

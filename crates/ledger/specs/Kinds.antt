@@ -1,6 +1,10 @@
 -- The kinds of entries: their numbers, and one table of what each uses.
-use Rattle.std.specs.Prelude.{ℕ, Bool, cond, eqb, List, [], ◌∷◌}
-use Rattle.ledger.specs.Structs.{Kind}
+use Rattle.std.specs.Prelude.{◌≡◌, ℕ, Bool, cond, eqb, List, [], ◌∷◌, Result, MatchResult}
+use Rattle.ledger.specs.Structs.{Uses}
+use Rattle.ledger.specs.declared.kinds.Kind.{Kind}
+use Rattle.ledger.specs.declared.kinds.Kind.TheVariants as kind
+use Rattle.ledger.specs.declared.refusals.Refusal.{Refusal}
+use Rattle.ledger.specs.declared.refusals.Refusal.TheVariants as refusal
 
 -- R12, R85 and R102: the eleven kinds, by the number in an entry's first byte.
 abbrev pub TERMS : ℕ
@@ -42,7 +46,7 @@ lookup kind [] otherwise = otherwise
 lookup kind (r ∷ rest) otherwise = cond (eqb kind r.0) r.1 (lookup kind rest otherwise)
 
 -- R12: a row of the table.
-abbrev pub row : ℕ → ℕ → ℕ → ℕ → Kind
+abbrev pub row : ℕ → ℕ → ℕ → ℕ → Uses
 row accounts flags words since = record { accounts = accounts; flags = flags; words = words; since = since }
 
 -- R15: `since` of a number that is no kind: later than any version of the rules, so it gets 2.
@@ -55,7 +59,7 @@ version new = cond new 2 1
 
 -- R12: the accounts that a kind names (none: it is the ledger's matter; one: A's; two: A's and B's), its largest flags, how many of its words
 -- it uses, from w1 on, and which version of the rules brought it.
-unfoldable pub kind_of : ℕ → Kind
+unfoldable pub kind_of : ℕ → Uses
 kind_of kind =
     lookup kind
     ((TERMS, row 0 0 6 1)
@@ -71,3 +75,21 @@ kind_of kind =
     ∷ (HOLIDAY, row 0 0 3 2)
     ∷ [])
     (row 0 0 0 never)
+
+-- R12: the number that stands for a kind.
+unfoldable pub code : Kind → ℕ
+code kind.Terms = TERMS
+code kind.Enrol = ENROL
+code kind.Deliver = DELIVER
+code kind.Transfer = TRANSFER
+code kind.Trade = TRADE
+code kind.Measure = MEASURE
+code kind.Usage = USAGE
+code kind.CloseDay = CLOSE_DAY
+code kind.CloseMonth = CLOSE_MONTH
+code kind.Confiscated = CONFISCATED
+code kind.Holiday = HOLIDAY
+
+-- R12 and R15: the kind that a number stands for; the number that is none's gets 2.
+abbrev pub Names : ℕ → Result Kind Refusal → Type 0
+Names n r = MatchResult r (λ k. n ≡ code k) (λ f. (f ≡ refusal.NoSuchKind) × ((kind_of n).since ≡ never))

@@ -1,9 +1,12 @@
 -- The ledger: entries, what a ledger holds, each kind of posting, a posting as a whole, and lists of postings.
+pub mod Changes
 pub mod Structs
 pub mod Checks
+pub mod Refusals
 pub mod Kinds
 pub mod Entries
 pub mod Forms
+pub mod Admitted
 pub mod State
 pub mod Ranges
 pub mod Answers

@@ -1,8 +1,11 @@
 -- The panel: all gas in bank, as one figure.
-use Rattle.std.specs.Prelude.{ℕ, ℤ, pos, ◌+ℤ◌, cond, List, [], ◌∷◌}
-use Rattle.ledger.specs.Structs.{Account, Ledger, Panel}
+use Rattle.std.specs.Prelude.{◌≡◌, true, false, ℕ, ℤ, pos, ◌+ℤ◌, cond, List, [], ◌∷◌, Result, MatchResult}
+use Rattle.ledger.specs.Structs.{Account, Ledger, Panel, Units}
 use Rattle.ledger.specs.State.{account_at}
 use Rattle.ledger.specs.Ranges.{in_range}
+use Rattle.ledger.specs.Refusals.{number}
+use Rattle.ledger.specs.declared.refusals.Refusal.{Refusal}
+use Rattle.ledger.specs.declared.refusals.Refusal.TheVariants as refusal
 
 -- R60: the bank of an open account; any other counts as 0 (R20).
 unfoldable pub open_bank : Account → ℤ
@@ -24,3 +27,13 @@ panel_of l =
       number = cond (in_range l) 0 20;
       figure = record { 0 = cond (in_range l) (open_banks l.accounts) (pos 0) };
     }
+
+-- R60: what is found of a ledger: the figure, or that it is out of range.
+abbrev pub Figures : Result Units Refusal → Ledger → Type 0
+Figures r l =
+    MatchResult r (λ x. (in_range l ≡ true) × (x.0 ≡ open_banks l.accounts)) (λ f. (in_range l ≡ false) × (f ≡ refusal.LedgerOutOfRange))
+
+-- R60: how the panel shows that.
+abbrev pub Shows : Result Units Refusal → Panel → Type 0
+Shows r p =
+    MatchResult r (λ x. (p.number ≡ 0) × (p.figure ≡ x)) (λ f. (p.number ≡ number f) × (p.figure.0 ≡ pos 0))

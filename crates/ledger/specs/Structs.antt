@@ -15,10 +15,11 @@ pub use Rattle.tariff.specs.declared.terms.Terms.{Terms}
 pub use Rattle.ledger.specs.declared.answers.Answer.{Answer}
 pub use Rattle.ledger.specs.declared.answers.Posted.{Posted}
 pub use Rattle.ledger.specs.declared.answers.Report.{Report}
-pub use Rattle.ledger.specs.declared.changes.Change.{Change}
+pub use Rattle.ledger.specs.Changes.{Change}
 pub use Rattle.ledger.specs.declared.closing.Closed.{Closed}
 pub use Rattle.ledger.specs.declared.entries.Entry.{Entry}
-pub use Rattle.ledger.specs.declared.kinds.Kind.{Kind}
+pub use Rattle.ledger.specs.declared.gas.Side.{Side}
+pub use Rattle.ledger.specs.declared.kinds.Uses.{Uses}
 pub use Rattle.ledger.specs.declared.panels.Panel.{Panel}
 pub use Rattle.ledger.specs.declared.state.Account.{Account}
 pub use Rattle.ledger.specs.declared.state.Ledger.{Ledger}

@@ -1,10 +1,16 @@
 -- TRADE: the company sells gas to an account, or buys gas from it.
 use Rattle.std.specs.Prelude.{Bool, true, false, cond, not}
-use Rattle.ledger.specs.Structs.{Account, Change, Entry, Quantity, Totals}
+use Rattle.ledger.specs.Structs.{Account, Change, Entry, Quantity, Side, Totals}
+use Rattle.ledger.specs.declared.gas.Side.TheVariants as side
 use Rattle.tariff.specs.Amounts.{together}
 use Rattle.ledger.specs.Entries.{company_sells}
 use Rattle.ledger.specs.State.{totals, with_totals}
 use Rattle.ledger.specs.Gas.{giving, taking}
+
+-- R38: what the company sells, the account takes.
+abbrev pub sold : Side → Bool
+sold side.Gives = false
+sold side.Takes = true
 
 -- R38: sales and purchases are summed apart, as the bill rounds each by itself (R54).
 unfoldable pub with_trade : Bool → Totals → Quantity → Totals

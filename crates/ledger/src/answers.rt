@@ -1,13 +1,15 @@
 // What a posting answers, and the ledger that it leaves.
-ghost use Rattle.std.specs.Prelude.{◌≡◌};
-ghost use Rattle.ledger.specs.Answers.{quiet, refused, settle};
+ghost use Rattle.std.specs.Prelude.{◌≡◌, eqb};
+ghost use Rattle.ledger.specs.Refusals.{number_of};
+ghost use Rattle.ledger.specs.Answers.{plain};
 
+use crate::refusals::Refusal;
 use crate::state::Ledger;
 use tariff::amounts::{Mills, Quantity, Units};
 
 // Of one account, from an accepted closing.
 #[repr(C)]
-#[derive(Clone, Copy)]
+#[derive(Clone, Copy, PartialEq, Eq, Default, Debug)]
 pub struct Report {
     // V1 is 1, V2 is 2, up to V8 128.
     pub mask: u64,
@@ -18,11 +20,19 @@ pub struct Report {
 }
 
 #[repr(C)]
-#[derive(Clone, Copy)]
+#[derive(Clone, Copy, PartialEq, Eq, Default, Debug)]
 pub struct Answer {
-    // 0 is acceptance.
+    // 0 is acceptance. A number, and no Option of a Refusal, as C reads it.
     pub number: u64,
     pub reports: [Report; 16],
+}
+
+impl Answer {
+    pub fn accepted(self) -> bool
+        ensures { result ≡ eqb self.number 0 }
+    {
+        self.number == 0
+    }
 }
 
 #[repr(C)]
@@ -32,33 +42,14 @@ pub struct Posted {
     pub ledger: Ledger,
 }
 
-pub fn quiet() -> Report
-    ensures { result ≡ quiet }
-{
-    Report {
-        mask: 0,
-        cash: Units(0),
-        forfeit: Quantity(0),
-        bill: Mills(0),
-    }
-}
+// A refusal, or the acceptance of what no closing is.
+impl From<Result<(), Refusal>> for Answer {
+    ghost from_gives = { λ r a. a ≡ plain (number_of r) };
 
-// The number n, zeros for everything else, and a ledger: the one given where n refuses, the next where it is 0.
-pub fn answered(l: Ledger, n: u64) -> Posted
-    ensures { result ≡ refused l n }
-{
-    let quiet = quiet();
-    let reports = [quiet; 16];
-    let answer = Answer { number: n, reports };
-    Posted { answer, ledger: l }
-}
-
-// The next ledger where n is 0, else the refusal n.
-pub fn settle(l: Ledger, n: u64, next: Ledger) -> Posted
-    ensures { result ≡ settle l n next }
-{
-    if n == 0 {
-        return answered(next, n);
+    #[tactic(auto, unfolding(crate::specs::Refusals::number_of, crate::specs::Answers::plain, crate::specs::Answers::quiet))]
+    fn from(outcome: Result<(), Refusal>) -> Answer {
+        let number = outcome.err().map_or(0, u64::from);
+        let reports = [Report::default(); 16];
+        Answer { number, reports }
     }
-    answered(l, n)
 }

@@ -1,100 +1,95 @@
 // One account at CLOSE DAY and CLOSE MONTH.
 ghost use Rattle.std.specs.Prelude.{◌≡◌, true, cond, ◌+◌, ◌≤◌, eqb};
 ghost use Rattle.tariff.specs.Amounts.{size, size_mills};
-ghost use Rattle.tariff.specs.Dates.{real};
-ghost use Rattle.tariff.specs.Terms.{terms_in_range};
-ghost use Rattle.tariff.specs.Bill.{prices_in_range};
-ghost use Rattle.ledger.specs.Kinds.{CLOSE_MONTH};
-ghost use Rattle.ledger.specs.Entries.{prices_of};
-ghost use Rattle.ledger.specs.Ranges.{account_in_range};
-ghost use Rattle.ledger.specs.Closing.{limit_of, violations_of, cash_at, with_cash, excused_still, day_end, month_end, day_closing, month_closing, left_alone, closing_of, ready};
-ghost use Rattle.tariff.specs.Bounds.{most_bank, most_bcq, most_days, most_owed};
+ghost use Rattle.tariff.specs.Steps.{settled_step};
+ghost use Rattle.ledger.specs.Closing.{limit_of, violations_of, cash_at, with_cash, excused_still, day_end, month_end, next_capacity, day_closing, month_closing, left_alone, closing_of, ready};
+ghost use Rattle.tariff.specs.Bounds.{most_bank, most_bcq, most_days, most_mcf, most_mdq, most_owed};
 
-use crate::answers::{Report, quiet};
-use crate::entries::Entry;
-use crate::kinds;
-use crate::state::{Account, no_month, no_today};
+use crate::admitted::Admitted;
+use crate::answers::Report;
+use crate::kinds::Kind;
+use crate::state::{Account, ThisMonth, Today};
 use tariff::amounts::{Mills, Quantity, Units};
-use tariff::bill::{Prices, Totals, bill};
-use tariff::closing::{
-    breaks_v3, breaks_v4, breaks_v5, breaks_v6, breaks_v7, breaks_v8, carry, cash, ends_excuse,
-    forfeit, forfeit_under, mask, withdrawal_limit,
-};
+use tariff::bill::{Prices, Totals};
+use tariff::closing::{Violations, breaks_v4, breaks_v7, carry, forfeit_under};
 use tariff::dates::Date;
-use tariff::steps::Step;
-use tariff::terms::{Capacity, Terms};
+use tariff::limits::Limits;
+use tariff::ranged::InRange;
+use tariff::terms::Terms;
 
 // An account at a closing: after the day's part, at the end, and what is reported of it.
-#[derive(Clone, Copy)]
+#[derive(Clone, Copy, PartialEq, Eq, Debug)]
 pub struct Closed {
     pub day: Account,
     pub account: Account,
     pub report: Report,
 }
 
-// The limit on a winter month's withdrawals.
-fn limit(d: Date, a: Account) -> Quantity
-    requires { a.capacity.bcq.0 ≤ most_bcq }
-    ensures value { result ≡ limit_of d a }
-    ensures bounded { result.0 ≤ 3060000000 }
-{
-    let month = d.month;
-    let bcq = a.capacity.bcq;
-    let carried = a.carry;
-    withdrawal_limit(month, bcq, carried)
+// An account after the day's part, with what the month's part may count on: it was in range, and the cash is added. No two are compared.
+#[derive(Clone, Copy)]
+struct AfterDay {
+    account: Account,
+    ghost bank: { size account.bank ≤ 300000000000 },
+    ghost net: { size account.month.totals.net ≤ most_bank },
+    ghost traded: { (account.month.totals.sales.0 ≤ 300000000000) × (account.month.totals.purchases.0 ≤ 300000000000) },
+    ghost cashed: { (account.month.totals.cash_ins.0 ≤ 300000000000) × (account.month.totals.cash_outs.0 ≤ 300000000000) },
+    ghost used: { account.month.totals.usage.0 ≤ most_mcf },
+    ghost capacity: { (account.capacity.mddq.0 ≤ most_mdq) × (account.capacity.bcq.0 ≤ most_bcq) },
+    ghost owed: { size_mills account.owed ≤ most_owed },
+    ghost step: { account.step.pending ≤ 100 },
 }
 
-fn violations(d: Date, limit: Quantity, a: Account) -> u64
-    requires { (real d ≡ true) × (account_in_range a ≡ true) × (limit ≡ limit_of d a) × (limit.0 ≤ 3060000000) }
-    ensures { result ≡ violations_of d a }
+#[tactic(auto, using(crate::proofs::Bounded::bounds), unfolding(crate::specs::Closing::violations_of, crate::specs::Closing::limit_of))]
+fn violations(d: InRange<Date>, a: InRange<Account>) -> u64
+    ensures { result ≡ violations_of d.value a.value }
 {
-    let month = d.month;
-    let bcq = a.capacity.bcq;
+    let date = d.get();
+    let a = a.get();
+    let limits = Limits::of(date.month, a.capacity.bcq);
+    let limit = limits.withdrawal_limit(a.carry);
     let net = a.month.totals.net;
-    let bank = a.bank;
-    let excused = a.excused;
-    let v3 = breaks_v3(month, bcq, net);
-    let v4 = breaks_v4(month, limit, net);
-    let v5 = breaks_v5(d, bcq, net);
-    let v6 = breaks_v6(d, bcq, bank);
-    let v7 = breaks_v7(bank);
-    let v8 = breaks_v8(excused, bcq, bank);
-    mask(a.today.v1, a.today.v2, v3, v4, v5, v6, v7, v8)
+    let found = Violations {
+        v1: a.today.v1,
+        v2: a.today.v2,
+        v3: limits.breaks_v3(net),
+        v4: breaks_v4(date.month, limit, net),
+        v5: limits.breaks_v5(d, net),
+        v6: limits.breaks_v6(date, a.bank),
+        v7: breaks_v7(a.bank),
+        v8: limits.breaks_v8(a.excused, a.bank),
+    };
+    found.mask()
 }
 
-fn cash_at(d: Date, a: Account) -> Units
-    requires { account_in_range a ≡ true }
-    ensures value { result ≡ cash_at d a }
+#[tactic(auto, using(crate::proofs::Bounded::bounds), unfolding(crate::specs::Closing::cash_at))]
+fn cash_at(d: Date, a: InRange<Account>) -> Units
+    ensures value { result ≡ cash_at d a.value }
     ensures bounded { size result ≤ 103060000000 }
 {
-    let month = d.month;
-    let bcq = a.capacity.bcq;
-    let bank = a.bank;
-    let excused = a.excused;
-    cash(month, excused, bcq, bank)
+    let a = a.get();
+    Limits::of(d.month, a.capacity.bcq).cash(a.excused, a.bank)
 }
 
+#[tactic(auto, using(tariff::proofs::Laws::together_value), unfolding(crate::specs::Closing::with_cash))]
 fn with_cash(m: Totals, cash: Units) -> Totals
     requires { (m.cash_ins.0 ≤ most_bank) × (m.cash_outs.0 ≤ most_bank) × (size cash ≤ 103060000000) }
-    ensures { result ≡ with_cash m cash }
+    ensures value { result ≡ with_cash m cash }
+    ensures bounded { (result.cash_ins.0 ≤ 300000000000) × (result.cash_outs.0 ≤ 300000000000) }
 {
-    let paid_in = m.cash_ins.plus(cash.inward());
-    let paid_out = m.cash_outs.plus(cash.outward());
-    let mut next = m;
-    next.cash_ins = paid_in;
-    next.cash_outs = paid_out;
-    next
+    Totals {
+        cash_ins: m.cash_ins + cash.inward(),
+        cash_outs: m.cash_outs + cash.outward(),
+        ..m
+    }
 }
 
 // Whether the excuse goes on, with the bank after cash.
-fn excused_still(d: Date, a: Account, bank: Units) -> bool
-    requires { a.capacity.bcq.0 ≤ most_bcq }
-    ensures { result ≡ excused_still d a bank }
+#[tactic(auto, using(crate::proofs::Bounded::bounds), unfolding(crate::specs::Closing::excused_still))]
+fn excused_still(d: Date, a: InRange<Account>, bank: Units) -> bool
+    ensures { result ≡ excused_still d a.value bank }
 {
-    let month = d.month;
-    let bcq = a.capacity.bcq;
-    let ends = ends_excuse(month, bcq, bank);
-    a.excused & !ends
+    let a = a.get();
+    a.excused & !Limits::of(d.month, a.capacity.bcq).ends_excuse(bank)
 }
 
 // One more violation day where anything was broken.
@@ -102,152 +97,135 @@ fn days(so_far: u64, mask: u64) -> u64
     requires { so_far ≤ most_days }
     ensures { result ≡ so_far + cond (eqb mask 0) 0 1 }
 {
-    if mask == 0 {
-        return so_far;
+    so_far + u64::from(mask != 0)
+}
+
+#[tactic(auto, using(crate::proofs::Bounded::bounds, crate::proofs::Bounded::pending_fits), unfolding(crate::specs::Closing::day_end, crate::specs::Closing::with_cash, crate::specs::State::with_bank, crate::specs::State::with_totals, crate::specs::State::with_month, crate::specs::State::with_excuse, crate::specs::State::with_days, crate::specs::State::with_today, crate::specs::State::no_today))]
+fn day_end(d: Date, mask: u64, cash: Units, account: InRange<Account>) -> AfterDay
+    requires { (account.value.opened ≡ true) × (size cash ≤ 103060000000) }
+    ensures { result.account ≡ day_end d mask cash account.value }
+{
+    let a = account.get();
+    let bank = a.bank + cash;
+    let totals = with_cash(a.month.totals, cash);
+    let excused = excused_still(d, account, bank);
+    AfterDay {
+        account: Account {
+            bank,
+            month: ThisMonth { totals, ..a.month },
+            excused,
+            violation_days: days(a.violation_days, mask),
+            today: Today::default(),
+            ..a
+        },
     }
-    so_far + 1
 }
 
-fn day_end(d: Date, mask: u64, cash: Units, a: Account) -> Account
-    requires { (account_in_range a ≡ true) × (size cash ≤ 103060000000) }
-    ensures { result ≡ day_end d mask cash a }
+#[tactic(auto, unfolding(crate::specs::Closing::day_closing, crate::specs::Closing::after_day))]
+fn close_day(d: InRange<Date>, a: InRange<Account>) -> Closed
+    requires { a.value.opened ≡ true }
+    ensures { result ≡ day_closing d.value a.value }
 {
-    let mut month = a.month;
-    let totals = month.totals;
-    let bank = a.bank.plus(cash);
-    let cashed = with_cash(totals, cash);
-    let excused = excused_still(d, a, bank);
-    let days = days(a.violation_days, mask);
-    let today = no_today();
-    month.totals = cashed;
-    let mut next = a;
-    next.bank = bank;
-    next.month = month;
-    next.excused = excused;
-    next.violation_days = days;
-    next.today = today;
-    next
-}
-
-fn close_day(d: Date, a: Account) -> Closed
-    requires { (real d ≡ true) × (account_in_range a ≡ true) }
-    ensures { result ≡ day_closing d a }
-{
-    let limit = limit(d, a);
-    let mask = violations(d, limit, a);
-    let cash = cash_at(d, a);
-    let day = day_end(d, mask, cash, a);
-    let report = Report {
-        mask,
-        cash,
-        forfeit: Quantity(0),
-        bill: Mills(0),
-    };
+    let mask = violations(d, a);
+    let cash = cash_at(d.get(), a);
+    let day = day_end(d.get(), mask, cash, a).account;
     Closed {
         day,
         account: day,
-        report,
+        report: Report {
+            mask,
+            cash,
+            forfeit: Quantity(0),
+            bill: Mills(0),
+        },
     }
 }
 
-// In a new month, with the limit that V4 had and the step that the month leaves.
-fn month_end(
-    d: Date,
-    limit: Quantity,
-    step: Step,
-    capacity: Capacity,
-    forfeit: Quantity,
-    bill: Mills,
-    a: Account,
-) -> Account
-    requires bank_fits { (size a.bank ≤ 300000000000) × (forfeit.0 ≤ 300000000000) }
-    requires owed_fits { (size_mills a.owed ≤ most_owed) × (size_mills bill ≤ 2000000000000000) }
-    requires limit_fits { (limit.0 ≤ 3060000000) × (size a.month.totals.net ≤ most_bank) }
-    ensures { result ≡ month_end d limit step capacity forfeit bill a }
+// In a new month, with the step that the month leaves and the capacity that goes with it.
+#[tactic(auto, using(tariff::proofs::Laws::settled_k), unfolding(crate::specs::Closing::month_end, crate::specs::Closing::limit_of, crate::specs::Closing::next_capacity, crate::specs::State::with_bank, crate::specs::State::with_measure, crate::specs::State::with_capacity, crate::specs::State::with_month, crate::specs::State::with_carry, crate::specs::State::with_excuse, crate::specs::State::no_month, crate::specs::State::no_totals))]
+fn month_end(d: Date, t: InRange<Terms>, forfeit: Quantity, bill: Mills, day: AfterDay) -> Account
+    requires { (forfeit.0 ≤ 300000000000) × (size_mills bill ≤ 2000000000000000) }
+    ensures { result ≡ month_end d (limit_of d day.account) (settled_step day.account.step) (next_capacity t.value day.account) forfeit bill day.account }
 {
-    let month = d.month;
-    let net = a.month.totals.net;
-    let carried = carry(month, limit, net);
-    let bank = a.bank.less(forfeit);
-    let owed = a.owed.plus(bill);
-    let fell = a.step.falls();
-    let empty = no_month();
-    let mut next = a;
-    next.bank = bank;
-    next.step = step;
-    next.capacity = capacity;
-    next.month = empty;
-    next.carry = carried;
-    next.owed = owed;
-    next.excused = a.excused | fell;
-    next
+    let a = day.account;
+    let limit = Limits::of(d.month, a.capacity.bcq).withdrawal_limit(a.carry);
+    let step = a.step.settled();
+    Account {
+        bank: a.bank - forfeit,
+        step,
+        capacity: t.capacity(step.k),
+        month: ThisMonth::default(),
+        carry: carry(d.month, limit, a.month.totals.net),
+        owed: a.owed + bill,
+        excused: a.excused | a.step.falls(),
+        ..a
+    }
 }
 
-fn close_month(is_new: bool, d: Date, t: Terms, p: Prices, a: Account) -> Closed
-    requires closing { (real d ≡ true) × (account_in_range a ≡ true) × (a.opened ≡ true) }
-    requires ranged { (terms_in_range t ≡ true) × (prices_in_range p ≡ true) }
-    ensures { result ≡ month_closing is_new d t p a }
+#[tactic(auto, using(tariff::proofs::Laws::settled_k), unfolding(crate::specs::Closing::month_closing, crate::specs::Closing::after_month, crate::specs::Closing::after_day, crate::specs::Closing::bill_at, crate::specs::Closing::excess_at, crate::specs::Closing::forfeit_at, crate::specs::Closing::next_capacity))]
+fn close_month(
+    is_new: bool,
+    d: InRange<Date>,
+    t: InRange<Terms>,
+    p: InRange<Prices>,
+    a: InRange<Account>,
+) -> Closed
+    requires { a.value.opened ≡ true }
+    ensures { result ≡ month_closing is_new d.value t.value p.value a.value }
 {
-    let month = d.month;
-    let limit = limit(d, a);
-    let mask = violations(d, limit, a);
-    let cash = cash_at(d, a);
-    let day = day_end(d, mask, cash, a);
-    let step = a.step.settled();
-    let capacity = t.capacity(step.k);
-    let mddq = day.capacity.mddq;
-    let totals = day.month.totals;
-    let bill = bill(t, p, mddq, totals);
-    let bank = day.bank;
-    let excess = forfeit(month, capacity.bcq, bank);
+    let date = d.get();
+    let mask = violations(d, a);
+    let cash = cash_at(date, a);
+    let after = day_end(date, mask, cash, a);
+    let day = after.account;
+    let bill = day.month.totals.bill(t, p, day.capacity.mddq);
+    let next = t.capacity(day.step.settled().k);
+    let excess = Limits::of(date.month, next.bcq).forfeit(day.bank);
     // What was confiscated is told by the account as it came: the day's part has cleared it.
-    let forfeit = forfeit_under(is_new, a.today.confiscation, excess);
-    let account = month_end(d, limit, step, capacity, forfeit, bill, day);
-    let report = Report {
-        mask,
-        cash,
-        forfeit,
-        bill,
-    };
+    let forfeit = forfeit_under(is_new, a.get().today.confiscation, excess);
     Closed {
         day,
-        account,
-        report,
+        account: month_end(date, t, forfeit, bill, after),
+        report: Report {
+            mask,
+            cash,
+            forfeit,
+            bill,
+        },
     }
 }
 
 // What no closing touches: it stays as it is, and nothing is reported of it.
+#[tactic(auto, unfolding(crate::specs::Closing::left_alone, crate::specs::Answers::quiet))]
 fn left_alone(a: Account) -> Closed
     ensures { result ≡ left_alone a }
 {
-    let report = quiet();
     Closed {
         day: a,
         account: a,
-        report,
+        report: Report::default(),
     }
 }
 
-pub fn close_account(is_new: bool, t: Terms, e: Entry, a: Account) -> Closed
-    requires admitted { (real e.date ≡ true) × (account_in_range a ≡ true) × (terms_in_range t ≡ true) × (e.kind ≡ CLOSE_MONTH → prices_in_range (prices_of e) ≡ true) }
-    requires opened { a.opened ≡ true }
-    ensures { result ≡ closing_of is_new t e a }
+#[tactic(auto, unfolding(crate::specs::Closing::closing_of, crate::specs::Kinds::code, crate::specs::Kinds::lookup))]
+pub fn close_account(is_new: bool, t: InRange<Terms>, e: Admitted, a: InRange<Account>) -> Closed
+    requires { a.value.opened ≡ true }
+    ensures { result ≡ closing_of is_new t.value e.entry a.value }
 {
-    let date = e.date;
-    let kind = e.kind;
-    match kind {
-        kinds::CLOSE_DAY => close_day(date, a),
-        kinds::CLOSE_MONTH => close_month(is_new, date, t, e.prices(), a),
-        _ => left_alone(a),
+    match e.kind {
+        Kind::CloseDay => close_day(e.date(), a),
+        Kind::CloseMonth => close_month(is_new, e.date(), t, e.prices(), a),
+        // No other kind closes.
+        _ => left_alone(a.get()),
     }
 }
 
 // Whether an account has all that its closing asks for, on a day that ends a month or not and reads the meters or not.
+#[tactic(auto, unfolding(crate::specs::Closing::ready))]
 pub fn ready(ends: bool, reads: bool, a: Account) -> bool
     ensures { result ≡ ready ends reads a }
 {
-    let month = a.month;
-    let measured = !reads | month.measured;
-    let metered = !ends | month.metered;
+    let measured = !reads | a.month.measured;
+    let metered = !ends | a.month.metered;
     !a.opened | (a.today.delivered & measured & metered)
 }

@@ -1,107 +1,77 @@
 // CLOSE DAY and CLOSE MONTH, of all accounts together.
-ghost use Rattle.std.specs.Prelude.{◌≡◌, true};
-ghost use Rattle.tariff.specs.Dates.{last_of_month, real};
-ghost use Rattle.tariff.specs.Holidays.{on_measurement_day};
+ghost use Rattle.std.specs.Prelude.{◌≡◌, ◌≢◌, replicate};
+ghost use Rattle.ledger.specs.Answers.{quiet};
+ghost use Rattle.ledger.specs.Closings.{holidays_after, Closes, post_closing};
 ghost use Rattle.ledger.specs.Kinds.{TERMS};
-ghost use Rattle.ledger.specs.Ranges.{every_account};
 ghost use Rattle.ledger.specs.Posting.{admission};
-ghost use Rattle.ledger.specs.Closing.{stays_in_range, ready};
-ghost use Rattle.ledger.specs.State.{held_in};
-ghost use Rattle.ledger.specs.Closings.{holidays_after, closed, post_closing};
 
-use crate::answers::{Answer, Posted, Report, answered, quiet};
+use crate::admitted::Admitted;
+use crate::answers::{Answer, Report};
 use crate::closing::{close_account, ready};
-use crate::entries::Entry;
-use crate::kinds;
-use crate::ranges::account_in_range;
-use crate::state::Ledger;
+use crate::kinds::Kind;
+use crate::refusals::Refusal;
+use crate::state::{Account, Ledger};
 use tariff::holidays::Holidays;
-
-// All accounts at a closing, whether they had what it asks for, and whether every number stays in its range.
-#[derive(Clone, Copy)]
-struct Closings {
-    ledger: Ledger,
-    reports: [Report; 16],
-    complete: bool,
-    fits: bool,
-}
+use tariff::ranged::{InRange, Ranged};
 
 // The holidays of the next day: a month's end drops those before it.
-fn still_held(e: Entry, held: Holidays) -> Holidays
-    requires { real e.date ≡ true }
-    ensures { result ≡ holidays_after e held }
+#[tactic(auto, using(std::proofs::lemmas::Bool::Decides::nat_tests), unfolding(crate::specs::Closings::holidays_after, crate::specs::Kinds::code))]
+fn still_held(e: Admitted, held: Holidays) -> Holidays
+    ensures { result ≡ holidays_after e.entry held }
 {
-    let date = e.date;
-    if e.kind == kinds::CLOSE_MONTH {
-        let tomorrow = date.day_after();
-        return held.kept_from(tomorrow);
+    match e.kind {
+        Kind::CloseMonth => held.kept_from(e.date().day_after()),
+        _ => held,
     }
-    held
 }
 
-// An account that is not open stays as it is, and has nothing to report.
-fn close_all(l: Ledger, e: Entry) -> Closings
-    requires { (admission l e ≡ 0) × (e.kind ≡ TERMS → ⊥) }
-    ensures closed { (result.ledger ≡ (closed l e).ledger) × (result.reports ≡ (closed l e).answer.reports) }
-    ensures complete { result.complete ≡ every_account (ready (last_of_month e.date) (on_measurement_day (held_in l) e.date)) l.accounts }
-    ensures fits { result.fits ≡ every_account (stays_in_range l.is_new l.terms e) l.accounts }
+// Closes the accounts, each in its place, with its report beside it: C's structs hold the two apart.
+// An account that is not open stays as it is, and has nothing to report. 27 of any account comes before 29 of any.
+fn close_all(
+    l: &Ledger,
+    e: Admitted,
+    accounts: &mut [Account; 16],
+    reports: &mut [Report; 16],
+) -> Result<(), Refusal>
+    requires admitted { (admission l.now e.entry ≡ 0) × (e.entry.kind ≢ TERMS) }
+    requires fresh { (accounts.old ≡ l.now.accounts) × (reports.old ≡ replicate 16 quiet) }
+    ensures { Closes result l.now e.entry accounts.new reports.new }
 {
-    let date = e.date;
+    let date = e.date();
     let ends = date.last_of_month();
-    let held = l.holidays;
-    let reads = held.on_measurement_day(date);
-    let is_new = l.is_new;
-    let terms = l.terms;
-    let mut next = l;
-    let quiet = quiet();
-    let mut reports = [quiet; 16];
-    let mut complete = true;
-    let mut fits = true;
-    for i in 0..16 {
-        let a = l.accounts[i];
+    let reads = l.holidays.measured(date);
+    let terms = InRange::of(l.terms);
+    let mut stays = Ok(());
+    for (i, a) in accounts.iter_mut().enumerate() {
         if a.opened {
-            let one = close_account(is_new, terms, e, a);
-            let day = one.day;
-            let account = one.account;
-            let report = one.report;
-            let had = ready(ends, reads, a);
-            let fit = account_in_range(day) & account_in_range(account);
-            next.accounts[i] = account;
-            reports[i] = report;
-            complete = complete & had;
-            fits = fits & fit;
+            if !ready(ends, reads, *a) {
+                return Err(Refusal::Incomplete);
+            }
+            let one = close_account(l.is_new, terms, e, InRange::of(*a));
+            if !(one.day.in_range() & one.account.in_range()) {
+                stays = Err(Refusal::LeavesRange);
+            }
+            *a = one.account;
+            reports[i] = one.report;
         }
     }
-    let tomorrow = date.day_after();
-    let kept = still_held(e, held);
-    next.date = tomorrow;
-    next.holidays = kept;
-    next.touched = false;
-    Closings {
-        ledger: next,
-        reports,
-        complete,
-        fits,
-    }
+    stays
 }
 
-// What is closed is a copy, which counts only where every account had what the closing asks for (docs/DECISIONS.md, 88).
-pub fn post_closing(l: Ledger, e: Entry) -> Posted
-    requires { (admission l e ≡ 0) × (e.kind ≡ TERMS → ⊥) }
-    ensures { result ≡ post_closing l e }
+// What is closed is a copy of the accounts, which counts only where none refuses (docs/DECISIONS.md, 88).
+#[tactic(auto, using(crate::proofs::Refused::refuses), unfolding(crate::specs::Answers::plain, crate::specs::Answers::quiet, crate::specs::Answers::refused, crate::specs::Closings::closed, crate::specs::Closings::post_closing))]
+pub fn post_closing(l: &mut Ledger, e: Admitted) -> Answer
+    requires { (admission l.old e.entry ≡ 0) × (e.entry.kind ≢ TERMS) }
+    ensures { record { answer = result; ledger = l.new } ≡ post_closing l.old e.entry }
 {
-    let closed = close_all(l, e);
-    if !closed.complete {
-        return answered(l, 27);
+    let mut accounts = l.accounts;
+    let mut answer = Answer::default();
+    if let Err(refusal) = close_all(l, e, &mut accounts, &mut answer.reports) {
+        return Answer::from(Err(refusal));
     }
-    if !closed.fits {
-        return answered(l, 29);
-    }
-    let reports = closed.reports;
-    let next = closed.ledger;
-    let answer = Answer { number: 0, reports };
-    Posted {
-        answer,
-        ledger: next,
-    }
+    l.accounts = accounts;
+    l.date = e.date().day_after();
+    l.holidays = still_held(e, l.holidays);
+    l.touched = false;
+    answer
 }

@@ -1,38 +1,36 @@
 // CONFISCATED.
 ghost use Rattle.std.specs.Prelude.{◌≡◌};
+ghost use Rattle.ledger.specs.Refusals.{Makes};
 ghost use Rattle.ledger.specs.Confiscated.{after_confiscation, confiscation};
 
-use crate::changes::Change;
-use crate::checks::refuse;
+use crate::admitted::Admitted;
+use crate::changes::checked;
 use crate::entries::Entry;
-use crate::ranges::account_in_range;
-use crate::state::Account;
+use crate::refusals::Refusal;
+use crate::state::{Account, Today};
 use tariff::amounts::Quantity;
 
+#[tactic(auto, unfolding(crate::specs::Confiscated::after_confiscation, crate::specs::Confiscated::confiscated_today, crate::specs::State::with_today))]
 fn with_confiscation(a: Account, e: Entry) -> Account
     ensures { result ≡ after_confiscation a e }
 {
-    let amount = Quantity(e.w1);
-    let mut today = a.today;
-    today.confiscated = true;
-    today.confiscation = amount;
-    let mut next = a;
-    next.today = today;
-    next
+    let today = Today {
+        confiscated: true,
+        confiscation: Quantity(e.w1),
+        ..a.today
+    };
+    Account { today, ..a }
 }
 
-pub fn confiscation(a: Account, e: Entry) -> Change
-    ensures { result ≡ confiscation a e }
+#[tactic(auto, unfolding(crate::specs::Confiscated::confiscation, crate::specs::Confiscated::confiscation_checks, crate::specs::Checks::verdict, crate::specs::Refusals::number))]
+pub fn confiscation(a: Account, e: Admitted) -> Result<Account, Refusal>
+    ensures { Makes result (confiscation a e.entry) }
 {
-    let b = with_confiscation(a, e);
-    let out = !account_in_range(b);
-    let n = refuse(
-        24,
-        !a.opened,
-        refuse(26, a.today.confiscated, refuse(29, out, 0)),
-    );
-    Change {
-        number: n,
-        account: b,
+    if !a.opened {
+        return Err(Refusal::NotOpen);
     }
+    if a.today.confiscated {
+        return Err(Refusal::AlreadyTold);
+    }
+    checked(with_confiscation(a, e.entry))
 }

@@ -1,71 +1,67 @@
 // DELIVER.
-ghost use Rattle.std.specs.Prelude.{◌≡◌, true, ◌≤◌};
+ghost use Rattle.std.specs.Prelude.{◌≡◌, ◌≤◌};
 ghost use Rattle.tariff.specs.Amounts.{size};
-ghost use Rattle.tariff.specs.Terms.{terms_in_range};
-ghost use Rattle.ledger.specs.Kinds.{DELIVER};
-ghost use Rattle.ledger.specs.Ranges.{account_in_range};
-ghost use Rattle.ledger.specs.Forms.{field_number};
-ghost use Rattle.ledger.specs.Deliver.{delivered, delivery};
 ghost use Rattle.tariff.specs.Bounds.{most_units};
+ghost use Rattle.ledger.specs.Deliver.{delivered, delivery};
+ghost use Rattle.ledger.specs.Refusals.{Makes};
+ghost use Rattle.ledger.specs.declared.kinds.Kind.TheVariants.{Deliver};
 
-use crate::changes::Change;
-use crate::checks::refuse;
-use crate::entries::Entry;
-use crate::ranges::account_in_range;
-use crate::state::Account;
+use crate::admitted::Admitted;
+use crate::changes::checked;
+use crate::refusals::Refusal;
+use crate::state::{Account, ThisMonth, Today};
 use tariff::amounts::{Quantity, Units};
-use tariff::delivery::{breaks_v1, breaks_v2, retained, share_of};
+use tariff::bill::Totals;
+use tariff::delivery::retained;
+use tariff::limits::Limits;
 use tariff::months::Month;
+use tariff::ranged::InRange;
 use tariff::terms::Terms;
 
-fn delivered(m: Month, a: Account, amount: Units, back_cast: Quantity) -> Account
-    requires { (account_in_range a ≡ true) × (size amount ≤ most_units) }
-    ensures { result ≡ delivered m a amount back_cast }
+#[tactic(auto, using(crate::proofs::Bounded::bounds), unfolding(crate::specs::Deliver::delivered, crate::specs::Deliver::delivered_today, crate::specs::Deliver::with_net, crate::specs::State::with_bank, crate::specs::State::with_month, crate::specs::State::with_today, crate::specs::State::with_totals))]
+fn delivered(m: Month, a: InRange<Account>, amount: Units, back_cast: Quantity) -> Account
+    requires { size amount ≤ most_units }
+    ensures { result ≡ delivered m a.value amount back_cast }
 {
-    let bank = a.bank;
-    let mdq = a.mdq;
-    let capacity = a.capacity;
-    let mddq = capacity.mddq;
-    let bcq = capacity.bcq;
-    let mut month = a.month;
-    let mut totals = month.totals;
-    let net = totals.net;
-    let banked = bank.plus(amount);
-    let moved = net.plus(amount);
+    let a = a.get();
+    let limits = Limits::of(m, a.capacity.bcq);
     // The share looks at the bank before the delivery.
-    let share = share_of(bank, bcq, back_cast, mdq);
-    let v1 = breaks_v1(m, bcq, amount);
-    let v2 = breaks_v2(share, mddq, amount);
-    totals.net = moved;
-    month.totals = totals;
-    let mut today = a.today;
-    today.delivered = true;
-    today.v1 = v1;
-    today.v2 = v2;
-    let mut next = a;
-    next.bank = banked;
-    next.month = month;
-    next.today = today;
-    next
+    let share = limits.open_share(a.bank, back_cast, a.mdq);
+    let today = Today {
+        delivered: true,
+        v1: limits.breaks_v1(amount),
+        v2: share.breaks_v2(a.capacity.mddq, amount),
+        ..a.today
+    };
+    let totals = Totals {
+        net: a.month.totals.net + amount,
+        ..a.month.totals
+    };
+    Account {
+        bank: a.bank + amount,
+        month: ThisMonth { totals, ..a.month },
+        today,
+        ..a
+    }
 }
 
-pub fn delivery(t: Terms, a: Account, e: Entry) -> Change
-    requires { (field_number e ≡ 0) × (e.kind ≡ DELIVER) × (account_in_range a ≡ true) × (terms_in_range t ≡ true) }
-    ensures { result ≡ delivery t a e }
+#[tactic(auto, using(crate::proofs::RightEntries::deliver_fits, tariff::proofs::Ranges::terms_bounds), unfolding(crate::specs::Deliver::delivery, crate::specs::Deliver::deliver_checks, crate::specs::Deliver::after_delivery, crate::specs::Deliver::amount_under, crate::specs::Checks::verdict, crate::specs::Kinds::code, crate::specs::Refusals::number))]
+pub fn delivery(
+    t: InRange<Terms>,
+    account: InRange<Account>,
+    e: Admitted,
+) -> Result<Account, Refusal>
+    requires { e.kind ≡ Deliver }
+    ensures { Makes result (delivery t.value account.value e.entry) }
 {
-    let date = e.date;
-    let month = date.month;
-    let back_cast = Quantity(e.w2);
-    let amount = retained(t.retainage, Quantity(e.w1), back_cast);
-    let b = delivered(month, a, amount, back_cast);
-    let out = !account_in_range(b);
-    let n = refuse(
-        24,
-        !a.opened,
-        refuse(26, a.today.delivered, refuse(29, out, 0)),
-    );
-    Change {
-        number: n,
-        account: b,
+    let a = account.get();
+    if !a.opened {
+        return Err(Refusal::NotOpen);
     }
+    if a.today.delivered {
+        return Err(Refusal::AlreadyTold);
+    }
+    let back_cast = Quantity(e.entry.w2);
+    let amount = retained(t.get().retainage, Quantity(e.entry.w1), back_cast);
+    checked(delivered(e.entry.date.month, account, amount, back_cast))
 }

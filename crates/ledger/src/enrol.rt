@@ -1,57 +1,53 @@
 // ENROL.
-ghost use Rattle.std.specs.Prelude.{◌≡◌, true, ◌≤◌};
-ghost use Rattle.tariff.specs.Terms.{terms_in_range};
-ghost use Rattle.ledger.specs.Kinds.{ENROL};
-ghost use Rattle.ledger.specs.Forms.{field_number};
-ghost use Rattle.ledger.specs.Ranges.{account_in_range};
-ghost use Rattle.ledger.specs.Enrol.{new_account, enrolment};
+ghost use Rattle.std.specs.Prelude.{◌≡◌, ◌≤◌};
 ghost use Rattle.tariff.specs.Bounds.{most_bcq, most_mdq, most_units};
+ghost use Rattle.ledger.specs.Enrol.{new_account, enrolment};
+ghost use Rattle.ledger.specs.Refusals.{Makes};
+ghost use Rattle.ledger.specs.declared.kinds.Kind.TheVariants.{Enrol};
 
-use crate::changes::Change;
-use crate::checks::refuse;
-use crate::entries::Entry;
-use crate::ranges::account_in_range;
-use crate::state::{Account, nobody};
+use crate::admitted::Admitted;
+use crate::changes::checked;
+use crate::refusals::Refusal;
+use crate::state::Account;
 use tariff::amounts::{Dth, Quantity, Units};
 use tariff::enrol::{opening_too_high, stays_on_fbs};
+use tariff::ranged::InRange;
 use tariff::steps::Step;
 use tariff::terms::Terms;
 
-fn new_account(t: Terms, mdq: Dth, opening: Quantity) -> Account
-    requires { (terms_in_range t ≡ true) × (mdq.0 ≤ most_mdq) × (opening.0 ≤ most_units) }
-    ensures value { result ≡ new_account t mdq opening }
+#[tactic(auto, unfolding(crate::specs::Enrol::new_account, crate::specs::State::as_open, crate::specs::State::nobody, crate::specs::State::no_month, crate::specs::State::no_today, crate::specs::State::no_totals, crate::specs::State::with_bank, crate::specs::State::with_measure, crate::specs::State::with_capacity))]
+fn new_account(t: InRange<Terms>, mdq: Dth, opening: Quantity) -> Account
+    requires { (mdq.0 ≤ most_mdq) × (opening.0 ≤ most_units) }
+    ensures value { result ≡ new_account t.value mdq opening }
     ensures bounded { result.capacity.bcq.0 ≤ most_bcq }
 {
     let step = Step::first(mdq);
-    let capacity = t.capacity(step.k);
-    let bank = Units::of(opening);
-    let mut next = nobody();
-    next.opened = true;
-    next.bank = bank;
-    next.mdq = mdq;
-    next.step = step;
-    next.capacity = capacity;
-    next
+    Account {
+        opened: true,
+        bank: Units::of(opening),
+        mdq,
+        step,
+        capacity: t.capacity(step.k),
+        ..Account::default()
+    }
 }
 
-pub fn enrolment(t: Terms, a: Account, e: Entry) -> Change
-    requires { (field_number e ≡ 0) × (e.kind ≡ ENROL) × (account_in_range a ≡ true) × (terms_in_range t ≡ true) }
-    ensures { result ≡ enrolment t a e }
+#[tactic(auto, using(crate::proofs::RightEntries::enrol_fits), unfolding(crate::specs::Enrol::enrolment, crate::specs::Enrol::enrol_checks, crate::specs::Enrol::enrolled, crate::specs::Checks::verdict, crate::specs::Kinds::code, crate::specs::Refusals::number))]
+pub fn enrolment(t: InRange<Terms>, a: Account, e: Admitted) -> Result<Account, Refusal>
+    requires { e.kind ≡ Enrol }
+    ensures { Makes result (enrolment t.value a e.entry) }
 {
-    let mdq = Dth(e.w1);
-    let opening = Quantity(e.w2);
-    let b = new_account(t, mdq, opening);
-    let bcq = b.capacity.bcq;
-    let stays = stays_on_fbs(e.process_only(), e.wishes(), mdq);
-    let above = opening_too_high(opening, bcq);
-    let out = !account_in_range(b);
-    let n = refuse(
-        24,
-        a.opened,
-        refuse(25, stays, refuse(28, above, refuse(29, out, 0))),
-    );
-    Change {
-        number: n,
-        account: b,
+    if a.opened {
+        return Err(Refusal::NotOpen);
     }
+    let mdq = Dth(e.entry.w1);
+    if stays_on_fbs(e.entry.process_only(), e.entry.wishes(), mdq) {
+        return Err(Refusal::StaysOnFbs);
+    }
+    let opening = Quantity(e.entry.w2);
+    let b = new_account(t, mdq, opening);
+    if opening_too_high(opening, b.capacity.bcq) {
+        return Err(Refusal::PastLimit);
+    }
+    checked(b)
 }

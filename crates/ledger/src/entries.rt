@@ -1,15 +1,17 @@
 // An entry of 32 bytes, taken apart, and what its words and flags mean.
-ghost use Rattle.std.specs.Prelude.{◌≡◌, ◌+◌, ◌<◌, ◌≤◌, length};
-ghost use Rattle.ledger.specs.Entries.{byte_at, word_at, entry_of, terms_of, prices_of, day_named, process_only, wishes, company_sells};
+ghost use Rattle.std.specs.Prelude.{◌≡◌, ◌+◌, ◌≤◌};
+ghost use Rattle.ledger.specs.Entries.{word_at, entry_of, Reads, terms_of, prices_of, day_named, process_only, wishes, company_sells};
 
+use crate::refusals::Refusal;
 use tariff::amounts::Dth;
 use tariff::bill::Prices;
 use tariff::dates::Date;
 use tariff::months::Month;
 use tariff::terms::Terms;
 
-#[derive(Clone, Copy)]
+#[derive(Clone, Copy, PartialEq, Eq, Debug)]
 pub struct Entry {
+    // A number, as any byte may stand there; Kind has the names of those that are kinds.
     pub kind: u64,
     pub a: usize,
     pub b: usize,
@@ -23,44 +25,31 @@ pub struct Entry {
     pub w6: u64,
 }
 
-fn byte(bytes: &[u8], at: usize) -> u64
-    requires { at < length bytes.now }
-    ensures value { result ≡ byte_at bytes.now at }
-    ensures bounded { result < 256 }
-{
-    bytes[at] as u64
-}
-
-fn word(bytes: &[u8], at: usize) -> u64
-    requires { at + 4 ≤ length bytes.now }
+#[tactic(auto, unfolding(crate::specs::Entries::word_at, crate::specs::Entries::byte_at))]
+fn word(bytes: &[u8; 32], at: usize) -> u64
+    requires { at + 4 ≤ 32 }
     ensures { result ≡ word_at bytes.now at }
 {
-    byte(bytes, at)
-        + 256 * (byte(bytes, at + 1) + 256 * (byte(bytes, at + 2) + 256 * byte(bytes, at + 3)))
+    let four = [bytes[at], bytes[at + 1], bytes[at + 2], bytes[at + 3]];
+    u64::from(u32::from_le_bytes(four))
 }
 
-fn date(bytes: &[u8]) -> Date
-    requires { length bytes.now ≡ 32 }
+#[tactic(auto, unfolding(crate::specs::Entries::entry_of, crate::specs::Entries::half_at, crate::specs::Entries::byte_at))]
+fn date(bytes: &[u8; 32]) -> Date
     ensures { result ≡ (entry_of bytes.now).date }
 {
-    let year = byte(bytes, 4) + 256 * byte(bytes, 5);
-    let month = byte(bytes, 6);
-    let day = byte(bytes, 7);
+    let year = u16::from_le_bytes([bytes[4], bytes[5]]);
     Date {
-        year,
-        month: Month(month),
-        day,
+        year: u64::from(year),
+        month: Month(u64::from(bytes[6])),
+        day: u64::from(bytes[7]),
     }
 }
 
-pub fn decode(bytes: &[u8]) -> Entry
-    requires { length bytes.now ≡ 32 }
+#[tactic(auto, unfolding(crate::specs::Entries::entry_of, crate::specs::Entries::byte_at))]
+fn decode(bytes: &[u8; 32]) -> Entry
     ensures { result ≡ entry_of bytes.now }
 {
-    let kind = byte(bytes, 0);
-    let a = byte(bytes, 1) as usize;
-    let b = byte(bytes, 2) as usize;
-    let flags = byte(bytes, 3);
     let date = date(bytes);
     let w1 = word(bytes, 8);
     let w2 = word(bytes, 12);
@@ -69,10 +58,10 @@ pub fn decode(bytes: &[u8]) -> Entry
     let w5 = word(bytes, 24);
     let w6 = word(bytes, 28);
     Entry {
-        kind,
-        a,
-        b,
-        flags,
+        kind: u64::from(bytes[0]),
+        a: usize::from(bytes[1]),
+        b: usize::from(bytes[2]),
+        flags: u64::from(bytes[3]),
         date,
         w1,
         w2,
@@ -83,7 +72,21 @@ pub fn decode(bytes: &[u8]) -> Entry
     }
 }
 
+impl TryFrom<&[u8]> for Entry {
+    type Error = Refusal;
+
+    ghost try_from_gives = { λ b r. Reads b.now r };
+
+    fn try_from(bytes: &[u8]) -> Result<Self, Refusal> {
+        match <&[u8; 32]>::try_from(bytes) {
+            Ok(whole) => Ok(decode(whole)),
+            Err(_) => Err(Refusal::WrongLength),
+        }
+    }
+}
+
 impl Entry {
+    #[tactic(auto, unfolding(crate::specs::Entries::terms_of))]
     pub fn terms(self) -> Terms
         ensures { result ≡ terms_of self }
     {
@@ -97,6 +100,7 @@ impl Entry {
         }
     }
 
+    #[tactic(auto, unfolding(crate::specs::Entries::prices_of))]
     pub fn prices(self) -> Prices
         ensures { result ≡ prices_of self }
     {
@@ -109,6 +113,7 @@ impl Entry {
     }
 
     // The date that a HOLIDAY names.
+    #[tactic(auto, unfolding(crate::specs::Entries::day_named))]
     pub fn day_named(self) -> Date
         ensures { result ≡ day_named self }
     {
@@ -119,18 +124,21 @@ impl Entry {
         }
     }
 
+    #[tactic(auto, unfolding(crate::specs::Entries::process_only))]
     pub fn process_only(self) -> bool
         ensures { result ≡ process_only self }
     {
         self.flags % 2 == 1
     }
 
+    #[tactic(auto, unfolding(crate::specs::Entries::wishes))]
     pub fn wishes(self) -> bool
         ensures { result ≡ wishes self }
     {
         2 <= self.flags
     }
 
+    #[tactic(auto, unfolding(crate::specs::Entries::company_sells))]
     pub fn company_sells(self) -> bool
         ensures { result ≡ company_sells self }
     {

@@ -1,79 +1,98 @@
 // What is wrong with an entry by itself: numbers 2 to 7.
 ghost use Rattle.std.specs.Prelude.{◌≡◌};
 ghost use Rattle.ledger.specs.Forms.{account_too_high, unused_set, some_units, words_in_range, wrong_transfer, entry_number};
+ghost use Rattle.ledger.specs.Kinds.{code};
+ghost use Rattle.ledger.specs.Admitted.{Admits};
 
-use crate::checks::refuse;
+use crate::admitted::Admitted;
 use crate::entries::Entry;
-use crate::kinds;
-use crate::kinds::{Kind, kind_of, version};
+use crate::kinds::{Kind, Uses, version};
+use crate::refusals::Refusal;
 use tariff::bounds::{MOST_MCF, MOST_MDQ, MOST_UNITS};
+use tariff::ranged::Ranged;
 
-fn account_too_high(k: Kind, e: Entry) -> bool
+#[tactic(auto, unfolding(crate::specs::Forms::account_too_high))]
+fn account_too_high(k: Uses, e: Entry) -> bool
     ensures { result ≡ account_too_high k e }
 {
     ((1 <= k.accounts) & (16 <= e.a)) | ((2 <= k.accounts) & (16 <= e.b))
 }
 
-fn unused_set(k: Kind, e: Entry) -> bool
+#[tactic(auto, unfolding(crate::specs::Forms::unused_set))]
+fn unused_set(k: Uses, e: Entry) -> bool
     ensures { result ≡ unused_set k e }
 {
-    let a = (k.accounts < 1) & !(e.a == 0);
-    let b = (k.accounts < 2) & !(e.b == 0);
+    let a = (k.accounts < 1) & (e.a != 0);
+    let b = (k.accounts < 2) & (e.b != 0);
     let flags = k.flags < e.flags;
-    let w1 = (k.words < 1) & !(e.w1 == 0);
-    let w2 = (k.words < 2) & !(e.w2 == 0);
-    let w3 = (k.words < 3) & !(e.w3 == 0);
-    let w4 = (k.words < 4) & !(e.w4 == 0);
-    let w5 = (k.words < 5) & !(e.w5 == 0);
-    let w6 = (k.words < 6) & !(e.w6 == 0);
+    let w1 = (k.words < 1) & (e.w1 != 0);
+    let w2 = (k.words < 2) & (e.w2 != 0);
+    let w3 = (k.words < 3) & (e.w3 != 0);
+    let w4 = (k.words < 4) & (e.w4 != 0);
+    let w5 = (k.words < 5) & (e.w5 != 0);
+    let w6 = (k.words < 6) & (e.w6 != 0);
     a | b | flags | w1 | w2 | w3 | w4 | w5 | w6
 }
 
 // Units from 1 to 10^9.
+#[tactic(auto, unfolding(crate::specs::Forms::some_units))]
 fn some_units(w: u64) -> bool
     ensures { result ≡ some_units w }
 {
-    (1 <= w) & (w <= MOST_UNITS)
+    (1..=MOST_UNITS).contains(&w)
 }
 
-fn words_in_range(e: Entry) -> bool
+#[tactic(auto, unfolding(crate::specs::Forms::words_in_range, crate::specs::Kinds::lookup, crate::specs::Kinds::code))]
+fn words_in_range(kind: Kind, e: Entry) -> bool
+    requires { e.kind ≡ code kind }
     ensures { result ≡ words_in_range e }
 {
-    let kind = e.kind;
     match kind {
-        kinds::TERMS => e.terms().in_range(),
-        kinds::ENROL => (e.w1 <= MOST_MDQ) & (e.w2 <= MOST_UNITS),
-        kinds::DELIVER => (e.w1 <= MOST_UNITS) & (e.w2 <= MOST_UNITS),
-        kinds::TRANSFER => some_units(e.w1) & some_units(e.w2),
-        kinds::TRADE => some_units(e.w1),
-        kinds::MEASURE => e.w1 <= MOST_MDQ,
-        kinds::USAGE => e.w1 <= MOST_MCF,
-        kinds::CLOSE_DAY => true,
-        kinds::CLOSE_MONTH => e.prices().in_range(),
-        kinds::CONFISCATED => e.w1 <= MOST_UNITS,
-        kinds::HOLIDAY => true,
-        _ => false,
+        Kind::Terms => e.terms().in_range(),
+        Kind::Enrol => (e.w1 <= MOST_MDQ) & (e.w2 <= MOST_UNITS),
+        Kind::Deliver => (e.w1 <= MOST_UNITS) & (e.w2 <= MOST_UNITS),
+        Kind::Transfer => some_units(e.w1) & some_units(e.w2),
+        Kind::Trade => some_units(e.w1),
+        Kind::Measure => e.w1 <= MOST_MDQ,
+        Kind::Usage => e.w1 <= MOST_MCF,
+        Kind::CloseMonth => e.prices().in_range(),
+        Kind::Confiscated => e.w1 <= MOST_UNITS,
+        Kind::CloseDay | Kind::Holiday => true,
     }
 }
 
-fn wrong_transfer(e: Entry) -> bool
+#[tactic(auto, unfolding(crate::specs::Forms::wrong_transfer, crate::specs::Kinds::code))]
+fn wrong_transfer(kind: Kind, e: Entry) -> bool
+    requires { e.kind ≡ code kind }
     ensures { result ≡ wrong_transfer e }
 {
-    (e.kind == kinds::TRANSFER) & ((e.a == e.b) | !(e.w1 == e.w2))
+    (kind == Kind::Transfer) & ((e.a == e.b) | (e.w1 != e.w2))
 }
 
-// The number of the first of 2 to 7 that applies, or 0.
-pub fn number_of(is_new: bool, e: Entry) -> u64
-    ensures { result ≡ entry_number is_new e }
+// An entry with nothing wrong, or the first of 2 to 7 that applies.
+#[tactic(auto, unfolding(crate::specs::Refusals::number, crate::specs::Forms::entry_number, crate::specs::Forms::entry_checks, crate::specs::Forms::field_checks, crate::specs::Forms::field_number, crate::specs::Checks::verdict))]
+pub fn check(is_new: bool, entry: Entry) -> Result<Admitted, Refusal>
+    ensures { Admits result entry (entry_number is_new entry) }
 {
-    let date = e.date;
-    let k = kind_of(e.kind);
-    let no_kind = !(k.since <= version(is_new));
-    let no_date = !date.real();
-    let too_high = account_too_high(k, e);
-    let set = unused_set(k, e);
-    let outside = !words_in_range(e);
-    let wrong = wrong_transfer(e);
-    let late = refuse(5, set, refuse(6, outside, refuse(7, wrong, 0)));
-    refuse(2, no_kind, refuse(3, no_date, refuse(4, too_high, late)))
+    let kind = Kind::try_from(entry.kind)?;
+    let uses = kind.uses();
+    if version(is_new) < uses.since {
+        return Err(Refusal::NoSuchKind);
+    }
+    if !entry.date.in_range() {
+        return Err(Refusal::NoSuchDate);
+    }
+    if account_too_high(uses, entry) {
+        return Err(Refusal::NoSuchAccount);
+    }
+    if unused_set(uses, entry) {
+        return Err(Refusal::UnusedSet);
+    }
+    if !words_in_range(kind, entry) {
+        return Err(Refusal::OutOfRange);
+    }
+    if wrong_transfer(kind, entry) {
+        return Err(Refusal::WrongTransfer);
+    }
+    Ok(Admitted { entry, kind })
 }

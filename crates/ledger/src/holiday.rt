@@ -1,47 +1,40 @@
 // HOLIDAY.
 ghost use Rattle.std.specs.Prelude.{◌≡◌};
-ghost use Rattle.ledger.specs.Checks.{verdict};
-ghost use Rattle.ledger.specs.Holiday.{holiday_checks, post_holiday};
-ghost use Rattle.ledger.specs.declared.state.Ledger as declared;
+ghost use Rattle.ledger.specs.Answers.{refused};
+ghost use Rattle.ledger.specs.Refusals.{number_of};
+ghost use Rattle.ledger.specs.Holiday.{Names, post_holiday};
 
-use crate::answers::{Posted, answered};
-use crate::entries::Entry;
+use crate::admitted::Admitted;
+use crate::refusals::Refusal;
 use crate::state::Ledger;
 use tariff::dates::Date;
 use tariff::holidays::Holidays;
+use tariff::ranged::InRange;
 
-// Numbers 33 to 35, of a ledger by its date and its holidays.
-fn refusal(today: Date, held: Holidays, d: Date) -> u64
-    ensures { (l : declared.Ledger) → l.date ≡ today → l.holidays ≡ held → result ≡ verdict (holiday_checks l d) }
+// The holidays with one more, stored anew.
+#[tactic(auto, using(tariff::proofs::HeldDates::held_stored, tariff::proofs::Calendar::before_derived), unfolding(crate::specs::Holiday::holiday_checks, crate::specs::State::held_in, crate::specs::Checks::verdict, crate::specs::Refusals::number))]
+fn named(l: &Ledger, d: Date) -> Result<Holidays, Refusal>
+    ensures { Names result l.now d }
 {
-    let later = today.before(d);
-    if !(d.real() & later) {
-        return 33;
+    let day = match InRange::checked(d) {
+        Some(day) if l.date < d => day,
+        _ => return Err(Refusal::PassedHoliday),
+    };
+    if (16 <= l.holidays.count) | l.holidays.names(d) {
+        return Err(Refusal::HolidayNamed);
     }
-    let known = held.names(d);
-    if (16 <= held.count) | known {
-        return 34;
+    let next = l.holidays.naming(d);
+    if !next.leaves_day(day) {
+        return Err(Refusal::NoDayLeft);
     }
-    let next = held.naming(d);
-    if !next.leaves_one(d) {
-        return 35;
-    }
-    0
+    Ok(next)
 }
 
-pub fn post_holiday(l: Ledger, e: Entry) -> Posted
-    ensures { result ≡ post_holiday l e }
+#[tactic(auto, using(crate::proofs::Refused::refuses), unfolding(crate::specs::Holiday::post_holiday, crate::specs::Holiday::holding, crate::specs::State::with_holidays, crate::specs::Answers::settle, crate::specs::Answers::refused))]
+pub fn post_holiday(l: &mut Ledger, e: Admitted) -> Result<(), Refusal>
+    ensures { refused l.new (number_of result) ≡ post_holiday l.old e.entry }
 {
-    let today = l.date;
-    let held = l.holidays;
-    let d = e.day_named();
-    let n = refusal(today, held, d);
-    if n != 0 {
-        return answered(l, n);
-    }
-    let holidays = held.naming(d);
-    let mut next = l;
-    next.holidays = holidays;
-    next.touched = true;
-    answered(next, 0)
+    l.holidays = named(l, e.entry.day_named())?;
+    l.touched = true;
+    Ok(())
 }

@@ -1,46 +1,42 @@
 // MEASURE.
-ghost use Rattle.std.specs.Prelude.{◌≡◌, true, ◌≤◌};
-ghost use Rattle.ledger.specs.Kinds.{MEASURE};
-ghost use Rattle.ledger.specs.Ranges.{account_in_range};
-ghost use Rattle.ledger.specs.Forms.{field_number};
+ghost use Rattle.std.specs.Prelude.{◌≡◌};
 ghost use Rattle.ledger.specs.Measure.{remeasured, measurement};
-ghost use Rattle.tariff.specs.Bounds.{most_mdq};
+ghost use Rattle.ledger.specs.Refusals.{Makes};
 
-use crate::changes::Change;
-use crate::checks::refuse;
-use crate::entries::Entry;
-use crate::ranges::account_in_range;
-use crate::state::Account;
+use crate::admitted::Admitted;
+use crate::changes::checked;
+use crate::refusals::Refusal;
+use crate::state::{Account, ThisMonth};
 use tariff::amounts::Dth;
+use tariff::ranged::InRange;
 
-fn remeasured(a: Account, mdq: Dth) -> Account
-    requires { (account_in_range a ≡ true) × (mdq.0 ≤ most_mdq) }
-    ensures { result ≡ remeasured a mdq }
+#[tactic(auto, using(crate::proofs::Bounded::bounds), unfolding(crate::specs::Measure::remeasured, crate::specs::State::with_measure, crate::specs::State::with_month))]
+fn remeasured(a: InRange<Account>, mdq: Dth) -> Account
+    ensures { result ≡ remeasured a.value mdq }
 {
-    let step = a.step;
-    let mut month = a.month;
-    let measured = step.measured(mdq);
-    month.measured = true;
-    let mut next = a;
-    next.mdq = mdq;
-    next.step = measured;
-    next.month = month;
-    next
+    let a = a.get();
+    let month = ThisMonth {
+        measured: true,
+        ..a.month
+    };
+    Account {
+        mdq,
+        step: a.step.measured(mdq),
+        month,
+        ..a
+    }
 }
 
-pub fn measurement(a: Account, e: Entry) -> Change
-    requires { (field_number e ≡ 0) × (e.kind ≡ MEASURE) × (account_in_range a ≡ true) }
-    ensures { result ≡ measurement a e }
+#[tactic(auto, unfolding(crate::specs::Measure::measurement, crate::specs::Measure::measure_checks, crate::specs::Measure::after_measure, crate::specs::Checks::verdict, crate::specs::Refusals::number))]
+pub fn measurement(account: InRange<Account>, e: Admitted) -> Result<Account, Refusal>
+    ensures { Makes result (measurement account.value e.entry) }
 {
-    let b = remeasured(a, Dth(e.w1));
-    let out = !account_in_range(b);
-    let n = refuse(
-        24,
-        !a.opened,
-        refuse(26, a.month.measured, refuse(29, out, 0)),
-    );
-    Change {
-        number: n,
-        account: b,
+    let a = account.get();
+    if !a.opened {
+        return Err(Refusal::NotOpen);
     }
+    if a.month.measured {
+        return Err(Refusal::AlreadyTold);
+    }
+    checked(remeasured(account, Dth(e.entry.w1)))
 }

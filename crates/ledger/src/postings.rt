@@ -1,114 +1,92 @@
 // Which rules a posting meets, by its kind.
-ghost use Rattle.std.specs.Prelude.{◌≡◌, true};
-ghost use Rattle.tariff.specs.Dates.{real};
-ghost use Rattle.tariff.specs.Holidays.{held_dates};
-ghost use Rattle.tariff.specs.Terms.{terms_in_range};
-ghost use Rattle.ledger.specs.Forms.{field_number};
-ghost use Rattle.ledger.specs.Ranges.{account_in_range, in_range};
-ghost use Rattle.ledger.specs.Days.{wrong_day};
-ghost use Rattle.ledger.specs.Posting.{admission, post_several, change_of};
-ghost use Rattle.ledger.specs.declared.state.Ledger as declared;
+ghost use Rattle.std.specs.Prelude.{◌≡◌};
+ghost use Rattle.ledger.specs.Answers.{refused};
+ghost use Rattle.ledger.specs.Kinds.{code, kind_of};
+ghost use Rattle.ledger.specs.Posting.{admission, post_kind, post_several, stored, change_of};
+ghost use Rattle.ledger.specs.Refusals.{Makes, number_of};
+ghost use Rattle.ledger.specs.State.{account_at};
 
-use crate::answers::{Posted, answered};
-use crate::changes::Change;
-use crate::checks::refuse;
+use crate::admitted::Admitted;
+use crate::answers::Answer;
 use crate::closings::post_closing;
 use crate::confiscated::confiscation;
 use crate::deliver::delivery;
 use crate::enrol::enrolment;
-use crate::entries::Entry;
-use crate::forms::number_of;
 use crate::holiday::post_holiday;
-use crate::kinds;
+use crate::kinds::Kind;
 use crate::measure::measurement;
+use crate::refusals::Refusal;
 use crate::state::{Account, Ledger};
 use crate::terms::post_terms;
 use crate::trade::trade;
 use crate::transfer::post_transfer;
 use crate::usage::usage;
-use tariff::dates::Date;
-use tariff::holidays::Holidays;
+use tariff::ranged::InRange;
 use tariff::terms::Terms;
 
-// Number 23.
-fn wrong_day(touched: bool, held: Holidays, e: Entry) -> bool
-    requires { real e.date ≡ true }
-    ensures { result ≡ wrong_day touched (held_dates held) e }
+// Most kinds see the account alone that they name, and change nothing else.
+#[tactic(auto, using(crate::proofs::Refused::refuses), unfolding(crate::specs::Posting::stored, crate::specs::Answers::refused, crate::specs::Answers::settle, crate::specs::State::account_at, crate::specs::State::nobody, crate::specs::State::no_month, crate::specs::State::no_today, crate::specs::State::no_totals, crate::specs::State::with_account))]
+fn post_one(l: &mut Ledger, e: Admitted) -> Result<(), Refusal>
+    requires { (admission l.old e.entry ≡ 0) × ((kind_of (code e.kind)).accounts ≡ 1) }
+    ensures { refused l.new (number_of result) ≡ stored l.old e.entry.a (change_of l.old.terms (account_at l.old e.entry.a) e.entry) }
 {
-    let date = e.date;
-    let kind = e.kind;
-    match kind {
-        kinds::TERMS => !date.first_of_gas_year() | touched,
-        kinds::ENROL => !date.first_of_gas_year(),
-        kinds::MEASURE => !held.on_measurement_day(date),
-        kinds::CLOSE_DAY => date.last_of_month() | date.last_date(),
-        kinds::CLOSE_MONTH => !date.last_of_month() | date.last_date(),
-        kinds::CONFISCATED => !date.on_confiscation_day(),
-        _ => false,
-    }
+    let i = e.entry.a;
+    let terms = InRange::of(l.terms);
+    let a = InRange::of(l.accounts[i]);
+    l.accounts[i] = change(terms, a, e)?;
+    l.touched = true;
+    Ok(())
 }
 
-// What every posting is asked, whatever its kind, of a ledger by what is asked of it: whether its numbers are in their ranges, whether it has begun and was posted to today, whether it is new, its date and its holidays.
-pub fn admission(
-    fits: bool,
-    begun: bool,
-    touched: bool,
-    is_new: bool,
-    today: Date,
-    held: Holidays,
-    e: Entry,
-) -> u64
-    ensures { (l : declared.Ledger) → in_range l ≡ fits → l.begun ≡ begun → l.touched ≡ touched → l.is_new ≡ is_new → l.date ≡ today → l.holidays ≡ held → result ≡ admission l e }
+#[tactic(auto, using(crate::proofs::OneAccount::by_uses), unfolding(crate::specs::Posting::post_kind, crate::specs::Answers::refused))]
+pub fn post_admitted(l: &mut Ledger, e: Admitted) -> Answer
+    requires { admission l.old e.entry ≡ 0 }
+    ensures { record { answer = result; ledger = l.new } ≡ post_kind l.old e.entry }
 {
-    let date = e.date;
-    let n = number_of(is_new, e);
-    if n != 0 {
-        return n;
+    if e.kind.uses().accounts == 1 {
+        Answer::from(post_one(l, e))
+    } else {
+        post_several(l, e)
     }
-    let not_begun = !begun & !(e.kind == kinds::TERMS);
-    let other_day = begun & !date.same(today);
-    let wrong = wrong_day(touched, held, e);
-    refuse(
-        20,
-        !fits,
-        refuse(21, not_begun, refuse(22, other_day, refuse(23, wrong, 0))),
-    )
 }
 
 // The kinds that name no account, or two.
-pub fn post_several(l: Ledger, e: Entry) -> Posted
-    requires { admission l e ≡ 0 }
-    ensures { result ≡ post_several l e }
+#[tactic(auto, unfolding(crate::specs::Posting::post_several, crate::specs::Answers::refused, crate::specs::Kinds::code, crate::specs::Kinds::lookup, crate::specs::Refusals::number))]
+fn post_several(l: &mut Ledger, e: Admitted) -> Answer
+    requires { admission l.old e.entry ≡ 0 }
+    ensures { record { answer = result; ledger = l.new } ≡ post_several l.old e.entry }
 {
-    let kind = e.kind;
-    match kind {
-        kinds::TERMS => return post_terms(l, e),
-        kinds::TRANSFER => return post_transfer(l, e),
-        kinds::CLOSE_DAY => {}
-        kinds::CLOSE_MONTH => {}
-        kinds::HOLIDAY => return post_holiday(l, e),
-        _ => return answered(l, 2),
-    }
-    // One call: with a call in each arm the compiler copies the ledger once more.
-    post_closing(l, e)
+    let outcome = match e.kind {
+        Kind::Terms => post_terms(l, e),
+        Kind::Transfer => post_transfer(l, e),
+        Kind::CloseDay | Kind::CloseMonth => return post_closing(l, e),
+        Kind::Holiday => post_holiday(l, e),
+        // These are change's, and come here as little as a number that is no kind's.
+        Kind::Enrol
+        | Kind::Deliver
+        | Kind::Trade
+        | Kind::Measure
+        | Kind::Usage
+        | Kind::Confiscated => Err(Refusal::NoSuchKind),
+    };
+    Answer::from(outcome)
 }
 
 // Those that name one, by that account.
-pub fn change(t: Terms, a: Account, e: Entry) -> Change
-    requires { (field_number e ≡ 0) × (account_in_range a ≡ true) × (terms_in_range t ≡ true) }
-    ensures { result ≡ change_of t a e }
+#[tactic(auto, unfolding(crate::specs::Posting::change_of, crate::specs::Kinds::code, crate::specs::Kinds::lookup, crate::specs::Refusals::number))]
+fn change(t: InRange<Terms>, a: InRange<Account>, e: Admitted) -> Result<Account, Refusal>
+    ensures { Makes result (change_of t.value a.value e.entry) }
 {
-    let kind = e.kind;
-    match kind {
-        kinds::ENROL => enrolment(t, a, e),
-        kinds::DELIVER => delivery(t, a, e),
-        kinds::TRADE => trade(a, e),
-        kinds::MEASURE => measurement(a, e),
-        kinds::USAGE => usage(a, e),
-        kinds::CONFISCATED => confiscation(a, e),
-        _ => Change {
-            number: 2,
-            account: a,
-        },
+    match e.kind {
+        Kind::Enrol => enrolment(t, a.get(), e),
+        Kind::Deliver => delivery(t, a, e),
+        Kind::Trade => trade(a, e),
+        Kind::Measure => measurement(a, e),
+        Kind::Usage => usage(a.get(), e),
+        Kind::Confiscated => confiscation(a.get(), e),
+        // These are post_several's, and come here as little as a number that is no kind's.
+        Kind::Terms | Kind::Transfer | Kind::CloseDay | Kind::CloseMonth | Kind::Holiday => {
+            Err(Refusal::NoSuchKind)
+        }
     }
 }

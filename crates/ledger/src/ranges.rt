@@ -7,58 +7,55 @@ use tariff::bill::Totals;
 use tariff::bounds::{
     MOST_BANK, MOST_BCQ, MOST_DAYS, MOST_MCF, MOST_MDQ, MOST_OVERDRAFT, MOST_OWED, MOST_UNITS,
 };
+use tariff::ranged::Ranged;
 use tariff::steps::Step;
 
+// These two are of the tariff's types, so they cannot be its trait here.
+#[tactic(auto, unfolding(crate::specs::Ranges::totals_in_range))]
 fn totals_in_range(m: Totals) -> bool
     ensures { result ≡ totals_in_range m }
 {
-    let net = m.net.within(MOST_BANK, MOST_BANK);
-    let trades = net & (m.sales.0 <= MOST_BANK) & (m.purchases.0 <= MOST_BANK);
-    trades & (m.cash_ins.0 <= MOST_BANK) & (m.cash_outs.0 <= MOST_BANK) & (m.usage.0 <= MOST_MCF)
+    m.net.within(MOST_BANK, MOST_BANK)
+        & (m.sales.0 <= MOST_BANK)
+        & (m.purchases.0 <= MOST_BANK)
+        & (m.cash_ins.0 <= MOST_BANK)
+        & (m.cash_outs.0 <= MOST_BANK)
+        & (m.usage.0 <= MOST_MCF)
 }
 
+#[tactic(auto, unfolding(crate::specs::Ranges::step_in_range))]
 fn step_in_range(opened: bool, s: Step) -> bool
     ensures { result ≡ step_in_range opened s }
 {
     let k = (1 <= s.k) & (s.k <= 100);
     let pending = (1 <= s.pending) & (s.pending <= 100);
-    let runs = (s.over <= 2) & (s.under <= 2);
-    (!opened | (k & pending)) & runs
+    (!opened | (k & pending)) & ((s.over <= 2) & (s.under <= 2))
 }
 
-pub fn account_in_range(a: Account) -> bool
-    ensures { result ≡ account_in_range a }
-{
-    let month = a.month.totals;
-    let step = a.step;
-    let bank = a.bank.within(MOST_OVERDRAFT, MOST_BANK);
-    let totals = totals_in_range(month);
-    let steps = step_in_range(a.opened, step);
-    let owed = a.owed.within(MOST_OWED);
-    let capacity = (a.mdq.0 <= MOST_MDQ)
-        & (a.capacity.mddq.0 <= MOST_MDQ)
-        & (a.capacity.bcq.0 <= MOST_BCQ);
-    bank & totals
-        & steps
-        & capacity
-        & (a.carry.0 <= MOST_BANK)
-        & owed
-        & (a.violation_days <= MOST_DAYS)
-        & (a.today.confiscation.0 <= MOST_UNITS)
-}
+impl Ranged for Account {
+    ghost ranged = { account_in_range };
 
-pub fn in_range(l: Ledger) -> bool
-    ensures { result ≡ in_range l }
-{
-    let date = l.date;
-    let terms = l.terms;
-    let held = l.holidays;
-    let held_fit = held.in_range();
-    let mut ok = (!l.begun | (date.real() & terms.in_range())) & held_fit;
-    for i in 0..16 {
-        let a = l.accounts[i];
-        let one = account_in_range(a);
-        ok = ok & one;
+    #[tactic(auto, unfolding(crate::specs::Ranges::account_in_range))]
+    fn in_range(self) -> bool {
+        self.bank.within(MOST_OVERDRAFT, MOST_BANK)
+            & totals_in_range(self.month.totals)
+            & step_in_range(self.opened, self.step)
+            & ((self.mdq.0 <= MOST_MDQ)
+                & (self.capacity.mddq.0 <= MOST_MDQ)
+                & (self.capacity.bcq.0 <= MOST_BCQ))
+            & (self.carry.0 <= MOST_BANK)
+            & self.owed.within(MOST_OWED)
+            & (self.violation_days <= MOST_DAYS)
+            & (self.today.confiscation.0 <= MOST_UNITS)
     }
-    ok
+}
+
+impl Ledger {
+    // By reference, and so not the trait's: a ledger handed on by value is copied.
+    pub fn in_range(&self) -> bool
+        ensures { result ≡ in_range self.now }
+    {
+        let dated = !self.begun | (self.date.in_range() & self.terms.in_range());
+        dated & self.holidays.in_range() & self.accounts.iter().all(|a| a.in_range())
+    }
 }

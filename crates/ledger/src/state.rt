@@ -1,8 +1,7 @@
 // The state that postings change.
-ghost use Rattle.std.specs.Prelude.{◌≡◌, ◌<◌};
-ghost use Rattle.ledger.specs.State.{no_totals, no_month, no_today, nobody, with_account};
+ghost use Rattle.std.specs.Prelude.{◌≡◌};
 
-use tariff::amounts::{Dth, Mcf, Mills, Quantity, Units};
+use tariff::amounts::{Dth, Mills, Quantity, Units};
 use tariff::bill::Totals;
 use tariff::dates::Date;
 use tariff::holidays::Holidays;
@@ -11,7 +10,7 @@ use tariff::terms::{Capacity, Terms};
 
 // What every closing clears.
 #[repr(C)]
-#[derive(Clone, Copy)]
+#[derive(Clone, Copy, PartialEq, Eq, Default, Debug)]
 pub struct Today {
     // DELIVER was accepted.
     pub delivered: bool,
@@ -25,7 +24,7 @@ pub struct Today {
 
 // What CLOSE MONTH clears.
 #[repr(C)]
-#[derive(Clone, Copy)]
+#[derive(Clone, Copy, PartialEq, Eq, Default, Debug)]
 pub struct ThisMonth {
     pub totals: Totals,
     // MEASURE and USAGE were accepted.
@@ -34,7 +33,7 @@ pub struct ThisMonth {
 }
 
 #[repr(C)]
-#[derive(Clone, Copy)]
+#[derive(Clone, Copy, PartialEq, Eq, Default, Debug)]
 pub struct Account {
     pub opened: bool,
     // A fall of the step excuses a bank above its limit until it fits again.
@@ -62,73 +61,8 @@ pub struct Ledger {
     pub terms: Terms,
     // The days on which no meter is read.
     pub holidays: Holidays,
+    // As many as a company has at most: no heap, and the place of each is C's.
     pub accounts: [Account; 16],
-}
-
-fn no_totals() -> Totals
-    ensures { result ≡ no_totals }
-{
-    Totals {
-        net: Units(0),
-        sales: Quantity(0),
-        purchases: Quantity(0),
-        cash_ins: Quantity(0),
-        cash_outs: Quantity(0),
-        usage: Mcf(0),
-    }
-}
-
-pub fn no_month() -> ThisMonth
-    ensures { result ≡ no_month }
-{
-    let totals = no_totals();
-    ThisMonth {
-        totals,
-        measured: false,
-        metered: false,
-    }
-}
-
-pub fn no_today() -> Today
-    ensures { result ≡ no_today }
-{
-    Today {
-        delivered: false,
-        v1: false,
-        v2: false,
-        confiscated: false,
-        confiscation: Quantity(0),
-    }
-}
-
-pub fn nobody() -> Account
-    ensures { result ≡ nobody }
-{
-    let month = no_month();
-    let today = no_today();
-    let step = Step {
-        k: 0,
-        pending: 0,
-        over: 0,
-        under: 0,
-    };
-    let capacity = Capacity {
-        mddq: Dth(0),
-        bcq: Dth(0),
-    };
-    Account {
-        opened: false,
-        excused: false,
-        today,
-        bank: Units(0),
-        mdq: Dth(0),
-        step,
-        capacity,
-        month,
-        carry: Quantity(0),
-        owed: Mills(0),
-        violation_days: 0,
-    }
 }
 
 // The account as it is, read at a place that only a run can tell. So the compiler copies it whole; one that it sees through it
@@ -137,17 +71,5 @@ pub fn in_one_piece(a: Account, which: bool) -> Account
     ensures { result ≡ a }
 {
     let both = [a; 2];
-    let i = which as usize;
-    both[i]
-}
-
-// With an account anew, after something was accepted.
-pub fn with_account(l: Ledger, i: usize, a: Account) -> Ledger
-    requires { i < 16 }
-    ensures { result ≡ with_account l i a }
-{
-    let mut next = l;
-    next.accounts[i] = a;
-    next.touched = true;
-    next
+    both[usize::from(which)]
 }

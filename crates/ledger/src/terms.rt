@@ -1,57 +1,56 @@
 // TERMS.
-ghost use Rattle.std.specs.Prelude.{◌≡◌, true};
-ghost use Rattle.tariff.specs.Terms.{terms_in_range};
-ghost use Rattle.ledger.specs.Kinds.{TERMS};
-ghost use Rattle.ledger.specs.Ranges.{account_in_range};
+ghost use Rattle.std.specs.Prelude.{◌≡◌};
+ghost use Rattle.ledger.specs.Answers.{refused};
 ghost use Rattle.ledger.specs.Posting.{admission};
+ghost use Rattle.ledger.specs.Refusals.{number_of};
 ghost use Rattle.ledger.specs.Terms.{reworked, terms_next, post_terms};
+ghost use Rattle.ledger.specs.declared.kinds.Kind.TheVariants.{Terms as TERMS};
 
-use crate::answers::{Posted, settle};
-use crate::checks::refuse;
-use crate::entries::Entry;
-use crate::ranges::in_range;
+use crate::admitted::Admitted;
+use crate::refusals::Refusal;
 use crate::state::{Account, Ledger};
+use tariff::ranged::InRange;
 use tariff::terms::Terms;
 
-fn reworked(t: Terms, a: Account) -> Account
-    requires { (terms_in_range t ≡ true) × (account_in_range a ≡ true) }
-    ensures { result ≡ reworked t a }
+#[tactic(auto, using(crate::proofs::Bounded::k_fits), unfolding(crate::specs::Terms::reworked, crate::specs::State::with_capacity))]
+fn reworked(t: InRange<Terms>, a: InRange<Account>) -> Account
+    ensures { result ≡ reworked t.value a.value }
 {
-    let k = a.step.k;
-    if a.opened {
-        let capacity = t.capacity(k);
-        let mut next = a;
-        next.capacity = capacity;
-        return next;
+    let a = a.get();
+    if !a.opened {
+        return a;
     }
-    a
+    Account {
+        capacity: t.capacity(a.step.k),
+        ..a
+    }
 }
 
-fn terms_next(l: Ledger, e: Entry) -> Ledger
-    requires { (admission l e ≡ 0) × (e.kind ≡ TERMS) }
-    ensures { result ≡ terms_next l e }
+fn terms_next(l: &Ledger, e: Admitted) -> Ledger
+    requires { (admission l.now e.entry ≡ 0) × (e.kind ≡ TERMS) }
+    ensures { result ≡ terms_next l.now e.entry }
 {
-    let terms = e.terms();
-    let date = e.date;
-    let mut next = l;
-    for i in 0..16 {
-        let a = l.accounts[i];
-        let b = reworked(terms, a);
-        next.accounts[i] = b;
+    let terms = InRange::of(e.entry.terms());
+    let mut next = *l;
+    for a in next.accounts.iter_mut() {
+        *a = reworked(terms, InRange::of(*a));
     }
     next.begun = true;
     next.touched = true;
-    next.date = date;
-    next.terms = terms;
+    next.date = e.entry.date;
+    next.terms = terms.get();
     next
 }
 
-pub fn post_terms(l: Ledger, e: Entry) -> Posted
-    requires { (admission l e ≡ 0) × (e.kind ≡ TERMS) }
-    ensures { result ≡ post_terms l e }
+#[tactic(auto, unfolding(crate::specs::Terms::post_terms, crate::specs::Terms::terms_checks, crate::specs::Answers::settle, crate::specs::Answers::refused, crate::specs::Checks::verdict, crate::specs::Refusals::number))]
+pub fn post_terms(l: &mut Ledger, e: Admitted) -> Result<(), Refusal>
+    requires { (admission l.old e.entry ≡ 0) × (e.kind ≡ TERMS) }
+    ensures { refused l.new (number_of result) ≡ post_terms l.old e.entry }
 {
     let next = terms_next(l, e);
-    let out = !in_range(next);
-    let n = refuse(29, out, 0);
-    settle(l, n, next)
+    if !next.in_range() {
+        return Err(Refusal::LeavesRange);
+    }
+    *l = next;
+    Ok(())
 }

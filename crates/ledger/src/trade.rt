@@ -1,63 +1,55 @@
 // TRADE.
-ghost use Rattle.std.specs.Prelude.{◌≡◌, true, ◌≤◌};
-ghost use Rattle.ledger.specs.Kinds.{TRADE};
-ghost use Rattle.ledger.specs.Ranges.{account_in_range};
-ghost use Rattle.ledger.specs.Forms.{field_number};
-ghost use Rattle.ledger.specs.Trade.{booked, traded, trade};
-ghost use Rattle.tariff.specs.Bounds.{most_units};
+ghost use Rattle.std.specs.Prelude.{◌≡◌, ◌≤◌};
+ghost use Rattle.tariff.specs.Amounts.{size};
+ghost use Rattle.tariff.specs.Bounds.{most_bank, most_bcq, most_units};
+ghost use Rattle.ledger.specs.Refusals.{Makes};
+ghost use Rattle.ledger.specs.Trade.{booked, sold, trade};
+ghost use Rattle.ledger.specs.declared.kinds.Kind.TheVariants.{Trade};
 
-use crate::changes::Change;
-use crate::checks::refuse;
-use crate::entries::Entry;
-use crate::gas::{give, take};
-use crate::state::Account;
+use crate::admitted::Admitted;
+use crate::gas::{Side, moved};
+use crate::refusals::Refusal;
+use crate::state::{Account, ThisMonth};
 use tariff::amounts::Quantity;
+use tariff::bill::Totals;
+use tariff::ranged::InRange;
 
-fn booked(sells: bool, a: Account, q: Quantity) -> Account
-    requires { (account_in_range a ≡ true) × (q.0 ≤ most_units) }
-    ensures { result ≡ booked sells a q }
+// What a month's trades say has no part in bank and BCQ.
+#[tactic(auto, using(crate::proofs::Bounded::bounds), unfolding(crate::specs::Trade::booked, crate::specs::Trade::with_trade, crate::specs::State::with_month, crate::specs::State::with_totals))]
+fn booked(side: Side, a: InRange<Account>, q: Quantity) -> Account
+    requires { q.0 ≤ most_units }
+    ensures value { result ≡ booked (sold side) a.value q }
+    ensures bounded { (size result.bank ≤ most_bank) × (result.capacity.bcq.0 ≤ most_bcq) }
 {
-    let mut month = a.month;
-    let mut totals = month.totals;
-    let mut next = a;
-    if sells {
-        let sales = totals.sales.plus(q);
-        totals.sales = sales;
-        month.totals = totals;
-        next.month = month;
-        return next;
-    }
-    let purchases = totals.purchases.plus(q);
-    totals.purchases = purchases;
-    month.totals = totals;
-    next.month = month;
-    next
+    let a = a.get();
+    let so_far = a.month.totals;
+    let totals = match side {
+        Side::Takes => Totals {
+            sales: so_far.sales + q,
+            ..so_far
+        },
+        Side::Gives => Totals {
+            purchases: so_far.purchases + q,
+            ..so_far
+        },
+    };
+    let month = ThisMonth { totals, ..a.month };
+    Account { month, ..a }
 }
 
-fn traded(a: Account, e: Entry) -> Change
-    requires { (account_in_range a ≡ true) × (e.w1 ≤ most_units) }
-    ensures { result ≡ traded a e }
+#[tactic(auto, using(crate::proofs::RightEntries::trade_fits), unfolding(crate::specs::Trade::trade, crate::specs::Trade::traded, crate::specs::Kinds::code, crate::specs::Refusals::number))]
+pub fn trade(account: InRange<Account>, e: Admitted) -> Result<Account, Refusal>
+    requires { e.kind ≡ Trade }
+    ensures { Makes result (trade account.value e.entry) }
 {
-    let date = e.date;
-    let month = date.month;
-    let q = Quantity(e.w1);
-    let sells = e.company_sells();
-    let b = booked(sells, a, q);
-    if sells {
-        return take(month, b, q);
+    if !account.get().opened {
+        return Err(Refusal::NotOpen);
     }
-    give(month, b, q)
-}
-
-pub fn trade(a: Account, e: Entry) -> Change
-    requires { (field_number e ≡ 0) × (e.kind ≡ TRADE) × (account_in_range a ≡ true) }
-    ensures { result ≡ trade a e }
-{
-    let c = traded(a, e);
-    let b = c.account;
-    let n = refuse(24, !a.opened, c.number);
-    Change {
-        number: n,
-        account: b,
-    }
+    let side = if e.entry.company_sells() {
+        Side::Takes
+    } else {
+        Side::Gives
+    };
+    let q = Quantity(e.entry.w1);
+    moved(side, e.entry.date.month, booked(side, account, q), q)
 }

@@ -1,38 +1,54 @@
 // TRANSFER.
-ghost use Rattle.std.specs.Prelude.{◌≡◌};
-ghost use Rattle.ledger.specs.Kinds.{TRANSFER};
+ghost use Rattle.std.specs.Prelude.{◌≡◌, ◌≤◌};
+ghost use Rattle.tariff.specs.Bounds.{most_units};
+ghost use Rattle.ledger.specs.Answers.{refused};
 ghost use Rattle.ledger.specs.Posting.{admission};
-ghost use Rattle.ledger.specs.Transfer.{post_transfer};
+ghost use Rattle.ledger.specs.Refusals.{number_of};
+ghost use Rattle.ledger.specs.Transfer.{Hands, post_transfer};
+ghost use Rattle.ledger.specs.declared.kinds.Kind.TheVariants.{Transfer};
 
-use crate::answers::{Posted, settle};
-use crate::checks::refuse;
-use crate::entries::Entry;
-use crate::gas::{give, take};
-use crate::state::{Ledger, with_account};
+use crate::admitted::Admitted;
+use crate::gas::{Side, moved};
+use crate::refusals::Refusal;
+use crate::state::{Account, Ledger};
 use tariff::amounts::Quantity;
+use tariff::months::Month;
+use tariff::ranged::InRange;
 
-pub fn post_transfer(l: Ledger, e: Entry) -> Posted
-    requires { (admission l e ≡ 0) × (e.kind ≡ TRANSFER) }
-    ensures { result ≡ post_transfer l e }
+// Giver and receiver afterwards. The limit of either is asked before the range of either.
+#[tactic(auto, using(crate::proofs::Bounded::bounds), unfolding(crate::specs::Transfer::handing_checks, crate::specs::Checks::verdict, crate::specs::Refusals::number))]
+fn handed(
+    m: Month,
+    a: InRange<Account>,
+    b: InRange<Account>,
+    q: Quantity,
+) -> Result<(Account, Account), Refusal>
+    requires { q.0 ≤ most_units }
+    ensures { Hands result m a.value b.value q }
 {
-    let i = e.a;
-    let j = e.b;
-    let date = e.date;
-    let month = date.month;
-    let q = Quantity(e.w1);
-    let a = l.accounts[i];
-    let b = l.accounts[j];
-    let shut = !(a.opened & b.opened);
-    let given = give(month, a, q);
-    let taken = take(month, b, q);
-    let x = given.number;
-    let y = taken.number;
-    let giver = given.account;
-    let receiver = taken.account;
-    let past = (x == 28) | (y == 28);
-    let out = !((x == 0) & (y == 0));
-    let n = refuse(24, shut, refuse(28, past, refuse(29, out, 0)));
-    let half = with_account(l, i, giver);
-    let next = with_account(half, j, receiver);
-    settle(l, n, next)
+    let (a, b) = (a.get(), b.get());
+    if !(a.opened & b.opened) {
+        return Err(Refusal::NotOpen);
+    }
+    match (moved(Side::Gives, m, a, q), moved(Side::Takes, m, b, q)) {
+        (Ok(giver), Ok(receiver)) => Ok((giver, receiver)),
+        (Err(Refusal::PastLimit), _) | (_, Err(Refusal::PastLimit)) => Err(Refusal::PastLimit),
+        _ => Err(Refusal::LeavesRange),
+    }
+}
+
+#[tactic(auto, using(crate::proofs::Refused::refuses), unfolding(crate::specs::Transfer::post_transfer, crate::specs::Transfer::transfer_checks, crate::specs::Transfer::giver, crate::specs::Transfer::receiver, crate::specs::State::account_at, crate::specs::State::nobody, crate::specs::State::no_month, crate::specs::State::no_today, crate::specs::State::no_totals, crate::specs::State::with_account, crate::specs::Answers::settle, crate::specs::Answers::refused))]
+pub fn post_transfer(l: &mut Ledger, e: Admitted) -> Result<(), Refusal>
+    requires { (admission l.old e.entry ≡ 0) × (e.kind ≡ Transfer) }
+    ensures { refused l.new (number_of result) ≡ post_transfer l.old e.entry }
+{
+    let i = e.entry.a;
+    let j = e.entry.b;
+    let a = InRange::of(l.accounts[i]);
+    let b = InRange::of(l.accounts[j]);
+    let (giver, receiver) = handed(e.entry.date.month, a, b, Quantity(e.entry.w1))?;
+    l.accounts[i] = giver;
+    l.accounts[j] = receiver;
+    l.touched = true;
+    Ok(())
 }

@@ -1,39 +1,39 @@
 // USAGE.
 ghost use Rattle.std.specs.Prelude.{◌≡◌};
+ghost use Rattle.ledger.specs.Refusals.{Makes};
 ghost use Rattle.ledger.specs.Usage.{metered, usage};
 
-use crate::changes::Change;
-use crate::checks::refuse;
-use crate::entries::Entry;
-use crate::ranges::account_in_range;
-use crate::state::Account;
+use crate::admitted::Admitted;
+use crate::changes::checked;
+use crate::refusals::Refusal;
+use crate::state::{Account, ThisMonth};
 use tariff::amounts::Mcf;
+use tariff::bill::Totals;
 
+#[tactic(auto, unfolding(crate::specs::Usage::metered, crate::specs::Usage::with_usage, crate::specs::State::with_month))]
 fn metered(a: Account, usage: Mcf) -> Account
     ensures { result ≡ metered a usage }
 {
-    let mut month = a.month;
-    let mut totals = month.totals;
-    totals.usage = usage;
-    month.totals = totals;
-    month.metered = true;
-    let mut next = a;
-    next.month = month;
-    next
+    let month = ThisMonth {
+        totals: Totals {
+            usage,
+            ..a.month.totals
+        },
+        metered: true,
+        ..a.month
+    };
+    Account { month, ..a }
 }
 
-pub fn usage(a: Account, e: Entry) -> Change
-    ensures { result ≡ usage a e }
+#[tactic(auto, unfolding(crate::specs::Usage::usage, crate::specs::Usage::usage_checks, crate::specs::Usage::after_usage, crate::specs::Checks::verdict, crate::specs::Refusals::number))]
+pub fn usage(a: Account, e: Admitted) -> Result<Account, Refusal>
+    ensures { Makes result (usage a e.entry) }
 {
-    let b = metered(a, Mcf(e.w1));
-    let out = !account_in_range(b);
-    let n = refuse(
-        24,
-        !a.opened,
-        refuse(26, a.month.metered, refuse(29, out, 0)),
-    );
-    Change {
-        number: n,
-        account: b,
+    if !a.opened {
+        return Err(Refusal::NotOpen);
     }
+    if a.month.metered {
+        return Err(Refusal::AlreadyTold);
+    }
+    checked(metered(a, Mcf(e.entry.w1)))
 }

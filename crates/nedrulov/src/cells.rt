@@ -1,18 +1,29 @@
 // The year sheet, laid into cells that the caller lends.
-ghost use Rattle.std.specs.Prelude.{◌≡◌, ◌≤◌, length, drop, ◌++◌};
-ghost use Rattle.nedrulov.specs.Cells.{cells_of};
+ghost use Rattle.std.specs.Prelude.{◌≡◌, ◌≤◌, cond, ltb, length, drop, ◌++◌};
+ghost use Rattle.archive.specs.Faults.{Passes};
+ghost use Rattle.archive.specs.YearSheet.{grid, cell_at, sheet_of};
+ghost use Rattle.nedrulov.specs.Cells.{cells_of, cells_after};
 
+use archive::Fault;
 use tariff::amounts::Units;
 
-pub fn put_cells(sheet: [[Units; 12]; 16], cells: &mut [i64])
-    requires { 192 ≤ length cells.old }
-    ensures { cells.new ≡ cells_of sheet ++ drop 192 cells.old }
+// Row after row.
+fn put_cells(sheet: &[[Units; 12]; 16], cells: &mut [i64])
+    requires { (192 ≤ length cells.old) × (sheet.now ≡ grid (cell_at sheet.now)) }
+    ensures { cells.new ≡ cells_of sheet.now ++ drop 192 cells.old }
 {
-    for k in 0..192 {
-        let i = k / 12;
-        let m = k % 12;
-        let bank = sheet[i][m];
-        let units = bank.0;
-        cells[k] = units;
+    for (k, bank) in sheet.as_flattened().iter().enumerate() {
+        cells[k] = bank.0;
     }
+}
+
+pub fn put_sheet(archive: &[u8], year: u64, cells: &mut [i64]) -> Result<(), Fault>
+    ensures number { Passes result (cond (ltb (length cells.old) 192) 12 0) }
+    ensures cells { cells.new ≡ cells_after (sheet_of archive.now year) cells.old }
+{
+    if cells.len() < 192 {
+        return Err(Fault::NoRoom);
+    }
+    put_cells(&archive::year_sheet(archive, year), cells);
+    Ok(())
 }

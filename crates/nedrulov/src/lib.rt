@@ -20,19 +20,20 @@ ghost use Rattle.nedrulov.specs.Cells.{cells_after};
 ghost use Rattle.nedrulov.specs.Amounts.{delivery_amount};
 ghost use Rattle.nedrulov.specs.Limits.{band_of};
 
-use crate::cells::put_cells;
+use crate::cells::put_sheet;
 use archive::{Checked, Figures, Place, Written};
 use backcast::{BackCast, LoadCurve};
 use ledger::{Answer, Ledger, Panel, Posted};
 use partners::PartnerList;
 use tariff::amounts::{Dth, Quantity};
-use tariff::bounds::{MOST_BCQ, MOST_RETAINAGE, MOST_UNITS};
+use tariff::bounds::{MOST_RETAINAGE, MOST_UNITS};
 use tariff::delivery::retained;
+use tariff::limits::Limits;
 use tariff::months::Month;
 
 // The least and the largest bank of a month, in units.
 #[repr(C)]
-#[derive(Clone, Copy)]
+#[derive(Clone, Copy, PartialEq, Eq, Default, Debug)]
 pub struct Band {
     pub minimum: u64,
     pub maximum: u64,
@@ -93,14 +94,14 @@ pub extern "C" fn nedrulov_is_new(archive: &[u8]) -> bool
 pub extern "C" fn nedrulov_check(archive: &[u8]) -> Checked
     ensures { result ≡ checked archive.now }
 {
-    archive::check(archive)
+    Checked::from(archive::check(archive))
 }
 
 #[unsafe(no_mangle)]
 pub extern "C" fn nedrulov_place(archive: &[u8], section: usize) -> Place
     ensures { result ≡ place_of archive.now section }
 {
-    archive::place(archive, section)
+    Place::from(archive::place(archive, section))
 }
 
 #[unsafe(no_mangle)]
@@ -108,7 +109,7 @@ pub extern "C" fn nedrulov_write(is_new: bool, list: &[u8], out: &mut [u8]) -> W
     ensures answer { result ≡ written is_new list.now (length out.old) }
     ensures output { out.new ≡ output_after is_new list.now out.old }
 {
-    archive::write(is_new, list, out)
+    Written::from(archive::write(is_new, list, out))
 }
 
 #[unsafe(no_mangle)]
@@ -124,12 +125,10 @@ pub extern "C" fn nedrulov_year_sheet(archive: &[u8], year: u64, cells: &mut [i6
     ensures number { result ≡ cond (ltb (length cells.old) 192) 12 0 }
     ensures cells { cells.new ≡ cells_after (sheet_of archive.now year) cells.old }
 {
-    if cells.len() < 192 {
-        return 12;
+    match put_sheet(archive, year, cells) {
+        Ok(()) => 0,
+        Err(fault) => u64::from(fault),
     }
-    let sheet = archive::year_sheet(archive, year);
-    put_cells(sheet, cells);
-    0
 }
 
 // The amount that a DELIVER adds to its bank under the retainage R; 0 where one of the three is out of its range.
@@ -146,21 +145,16 @@ pub extern "C" fn nedrulov_amount(retainage: u64, delivered: u64, back_cast: u64
 
 // A month's minimum and maximum of a BCQ; 0 and 0 where there is no such month or the BCQ is out of its range.
 #[unsafe(no_mangle)]
+#[tactic(auto, unfolding(crate::specs::Limits::band_of, crate::specs::Limits::limited))]
 pub extern "C" fn nedrulov_band(month: u64, bcq: u64) -> Band
     ensures { result ≡ band_of month bcq }
 {
-    if (1 <= month) & (month <= 12) & (bcq <= MOST_BCQ) {
-        let m = Month(month);
-        let minimum = Quantity::percent(m.minimum(), Dth(bcq));
-        let maximum = Quantity::percent(m.maximum(), Dth(bcq));
-        return Band {
-            minimum: minimum.0,
-            maximum: maximum.0,
-        };
-    }
-    Band {
-        minimum: 0,
-        maximum: 0,
+    match Limits::checked(Month(month), Dth(bcq)) {
+        Some(limits) if (1..=12).contains(&month) => Band {
+            minimum: limits.minimum().0,
+            maximum: limits.maximum().0,
+        },
+        _ => Band::default(),
     }
 }
 

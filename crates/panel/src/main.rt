@@ -3,36 +3,41 @@
 #![tactic(auto)]
 
 use archive::Figures;
-use printing::units;
 use reading::read_full;
-use std::io;
-use std::io::Read;
+use std::fmt;
 use std::process::ExitCode;
 
-fn show(rt: &impl Print, f: Figures) -> io::Result<()> {
-    if f.number != 0 {
-        return println!(rt; "archive {} {}", f.number, f.index);
-    }
-    println!(rt; "{} {} {}", f.accepted, f.refused, units(f.figure))
+#[derive(Clone, Copy)]
+enum Line {
+    TooLong,
+    Shown(Figures),
 }
 
-// Whether the input has another byte.
-fn has_more<R: Read>(input: &mut R) -> bool {
-    let mut one = [0u8; 1];
-    0 < read_full(input, &mut one)
+impl fmt::Display for Line {
+    fn fmt<W: fmt::Write>(&self, f: &mut fmt::Formatter<W>) -> fmt::Result {
+        match self {
+            Line::TooLong => write!(f, "too long"),
+            // The struct is C's: its number is 0, or tells what is wrong.
+            Line::Shown(s) if s.number == 0 => {
+                write!(f, "{} {} {}", s.accepted, s.refused, s.figure)
+            }
+            Line::Shown(s) => write!(f, "archive {} {}", s.number, s.index),
+        }
+    }
 }
 
 // Where the line cannot be printed the status is 1. The words for it would make the program 50 KB larger.
 fn main(rt: HostRuntime) -> ExitCode {
     let mut input = rt.reader();
-    let mut bytes = [0u8; 65536];
+    // A byte more than an archive may have, which is there only if the input is too long.
+    let mut bytes = [0u8; 65537];
     let n = read_full(&mut input, &mut bytes);
-    let printed = if n == 65536 && has_more(&mut input) {
-        println!(rt; "too long")
+    let line = if n == bytes.len() {
+        Line::TooLong
     } else {
-        show(&rt, archive::figures(&bytes[..n]))
+        Line::Shown(archive::figures(&bytes[..n]))
     };
-    match printed {
+    match println!(rt; "{line}") {
         Ok(()) => ExitCode::SUCCESS,
         Err(_) => ExitCode::FAILURE,
     }

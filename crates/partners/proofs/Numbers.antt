@@ -16,9 +16,9 @@ use Rattle.partners.specs.Structs.{Ledger}
 
 module _ (l : Ledger) (s q : ℕ) where
   pub check_by_check : verdict (partner_checks l s q)
-      ≡ cond (leb 16 s) 4 (cond (not (leb 1 q && leb q 1000000000)) 6 (cond (not (in_range l)) 20 (cond (not l.begun) 21 (cond (not (account_at l s).opened) 24 0))))
+      ≡ cond (leb 16 s) 4 (cond (not (some_units q)) 6 (cond (not (in_range l)) 20 (cond (not l.begun) 21 (cond (not (account_at l s).opened) 24 0))))
   unfolding partner_checks
-  check_by_check = simp (verdict_next, verdict_none, units_between)
+  check_by_check = simp (verdict_next, verdict_none)
 
   -- a number of 0 tells of each check that it found nothing wrong
   module _ (h : verdict (partner_checks l s q) ≡ 0) where

@@ -6,3 +6,4 @@ pub use Rattle.ledger.specs.declared.state.Account.{Account}
 pub use Rattle.ledger.specs.declared.state.Ledger.{Ledger}
 pub use Rattle.partners.specs.declared.answers.PartnerList.{PartnerList}
 pub use Rattle.partners.specs.declared.order.Partner.{Partner}
+pub use Rattle.ledger.specs.declared.refusals.Refusal.{Refusal}

@@ -1,12 +1,14 @@
 // What is answered: a number, and the partners' account numbers.
-ghost use Rattle.std.specs.Prelude.{◌≡◌, [], map};
+ghost use Rattle.std.specs.Prelude.{◌≡◌, map};
+ghost use Rattle.partners.specs.Listing.{answer, answered};
 ghost use Rattle.partners.specs.Structs.{Partner};
-ghost use Rattle.partners.specs.Listing.{answer};
 
 use crate::places::Places;
+use ledger::Refusal;
 
+// C has no Result and no lists, so the number and the count lie beside the accounts.
 #[repr(C)]
-#[derive(Clone, Copy)]
+#[derive(Clone, Copy, PartialEq, Eq, Debug)]
 pub struct PartnerList {
     pub number: u64,
     pub count: u64,
@@ -14,29 +16,34 @@ pub struct PartnerList {
     pub accounts: [u64; 16],
 }
 
-pub fn nobody(n: u64) -> PartnerList
-    ensures { result ≡ answer n [] }
+// With 0 in the places that are left.
+fn numbers(places: &Places) -> [u64; 16]
+    ensures { result ≡ (answer 0 (map (λ (p : Partner). p.account) places.now.items)).accounts }
 {
-    let accounts = [0; 16];
-    PartnerList {
-        number: n,
-        count: 0,
-        accounts,
+    let mut accounts = [0; 16];
+    for (k, partner) in places.as_slice().iter().enumerate() {
+        accounts[k] = partner.account;
     }
+    accounts
 }
 
-pub fn listed(places: Places) -> PartnerList
-    ensures { result ≡ record { number = 0; count = places.count; accounts = map (λ (p : Partner). p.account) places.partners } }
-{
-    let partners = places.partners;
-    let mut accounts = [0; 16];
-    for k in 0..16 {
-        let p = partners[k];
-        accounts[k] = p.account;
-    }
-    PartnerList {
-        number: 0,
-        count: places.count as u64,
-        accounts,
+impl From<Result<Places, Refusal>> for PartnerList {
+    ghost from_gives = { λ r list. list ≡ answered r };
+
+    #[tactic(auto, unfolding(crate::specs::Listing::answered, crate::specs::Listing::answer))]
+    fn from(places: Result<Places, Refusal>) -> PartnerList {
+        match places {
+            Ok(places) => PartnerList {
+                number: 0,
+                // No From takes a usize to C's u64.
+                count: places.len() as u64,
+                accounts: numbers(&places),
+            },
+            Err(refusal) => PartnerList {
+                number: u64::from(refusal),
+                count: 0,
+                accounts: [0; 16],
+            },
+        }
     }
 }

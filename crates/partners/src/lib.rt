@@ -13,10 +13,8 @@ ghost use Rattle.partners.specs.Listing.{partners_of};
 ghost use Rattle.partners.specs.Transfers.{ListedCanBeSent};
 ghost use Rattle.partners.specs.WorkedCases.{WorkedCases};
 
-use crate::answers::{listed, nobody};
-use crate::finding::{number, partners_in};
+use crate::finding::found;
 use ledger::Ledger;
-use tariff::amounts::Quantity;
 
 // The types that cross the boundary; the functions that do stand below, and none of them requires anything.
 pub use answers::PartnerList;
@@ -25,13 +23,7 @@ pub use answers::PartnerList;
 pub fn partners(ledger: Ledger, seller: u64, quantity: u64) -> PartnerList
     ensures { result ≡ partners_of ledger seller quantity }
 {
-    let n = number(ledger, seller, quantity);
-    if n != 0 {
-        return nobody(n);
-    }
-    let i = seller as usize;
-    let places = partners_in(ledger, i, Quantity(quantity));
-    listed(places)
+    PartnerList::from(found(&ledger, seller, quantity))
 }
 
 // R98: who is listed, how often and in which order; and that this leaves one list only.

@@ -2,34 +2,35 @@
 // which may be up to 65,536 bytes long.
 #![tactic(auto)]
 
-use printing::units;
 use reading::read_full;
-use std::io;
+use std::{fmt, io};
 use tariff::amounts::Units;
 
-fn row(rt: &impl Print, banks: [Units; 12]) -> io::Result<()> {
-    for m in 0..12 {
-        if 0 < m {
-            print!(rt; " ")?;
-        }
-        print!(rt; "{}", units(banks[m]))?;
-    }
-    println!(rt)
-}
+// An account's banks at the ends of the months, with a space between two.
+#[derive(Clone, Copy)]
+struct Row([Units; 12]);
 
-fn sheet(rt: &impl Print, rows: [[Units; 12]; 16]) -> io::Result<()> {
-    for i in 0..16 {
-        row(rt, rows[i])?;
+impl fmt::Display for Row {
+    fn fmt<W: fmt::Write>(&self, f: &mut fmt::Formatter<W>) -> fmt::Result {
+        for (month, bank) in self.0.iter().enumerate() {
+            if month != 0 {
+                write!(f, " ")?;
+            }
+            write!(f, "{bank}")?;
+        }
+        Ok(())
     }
-    Ok(())
 }
 
 fn main(rt: HostRuntime) -> io::Result<()> {
     let mut input = rt.reader();
+    // An array: a Vec would ask C for memory, and that it gives any is one more thing to believe.
     let mut bytes = [0u8; 65536];
     let n = read_full(&mut input, &mut bytes);
-    for year in 2025..2028 {
-        sheet(&rt, archive::year_sheet(&bytes[..n], year))?;
+    for year in [2025, 2026, 2027] {
+        for banks in archive::year_sheet(&bytes[..n], year) {
+            println!(rt; "{}", Row(banks))?;
+        }
     }
     Ok(())
 }

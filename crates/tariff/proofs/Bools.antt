@@ -1,6 +1,9 @@
 -- What a passed or failed test tells of its parts, and laws of choices: each by trying true and false.
+use Prim.Native.Nat.{ℕ, ◌*◌, ◌≤◌}
 use mathlib.Core.Path.{◌≡◌, refl, sym, ◌∙◌, subst}
 use mathlib.Core.Bool.{Bool, true, false, cond, ◌&&◌, ◌||◌}
+use native.Mathlib.Omega.{arith}
+use mir.Val.{bool_byte}
 use lib.Dec.{T}
 
 pub and_left : (a b : Bool) → a && b ≡ true → a ≡ true
@@ -30,3 +33,13 @@ pub ruleset parts = (and_left, and_right)
 pub either : {A : Type 0} (P : A → Type 0) (t : Bool) (x y : A) → (t ≡ true → P x) → (t ≡ false → P y) → P (cond t x y)
 either P true x y f g = f refl
 either P false x y f g = g refl
+
+-- ---- a test as a bit
+
+pub bit_le : (t : Bool) → bool_byte t ≤ 1
+bit_le true = omega arith
+bit_le false = omega arith
+
+pub weighed : (n : ℕ) (t : Bool) → n * bool_byte t ≡ cond t n 0
+weighed n true = omega arith
+weighed n false = omega arith

@@ -6,6 +6,8 @@ use mathlib.Core.Bool.{Bool, true, false, cond, not, ◌&&◌, ◌||◌, and-fal
 use mathlib.Core.List.{List, [], ◌∷◌, ◌++◌}
 use native.Mathlib.Omega.{arith}
 use lib.Dec.{eqb, leb, ltb}
+use Rattle.std.specs.Option.{MatchOption, unwrap_or}
+use Rattle.std.specs.Prelude.{Option, Some, None}
 use lib.ListN.{length, length-append, length-take}
 use borrow.Author.Tests.{eqb-true, eqb-false, eq-eqb, ne_eqb, le-leb, le-ltb, leb-true, ltb-true, ltb-false, lt-ltb, not-true}
 use Rattle.tariff.specs.Months.{same_month}
@@ -91,6 +93,22 @@ finds_first hs year m =
 pub only_one : OnlyOne
 only_one hs year m day is =
     sym (only hs year m 25 (month_length year m - 24) (measurement_day hs year m) day (month_searched hs year m) is.late (let l = is.late in let r = is.within in omega arith) is.works is.is_first)
+
+-- what a `find` over the month's days from the 25th on answers
+pub found_first : (hs : List Date) (year : ℕ) (m : Month) (start end : ℕ) (r : Option ℕ) → start ≡ 25 → end ≡ month_length year m + 1
+    → MatchOption r ((k : ℕ) → start ≤ k → k < end → works hs year m k ≡ false)
+    (λ i. (start ≤ i) × (i < end) × (works hs year m i ≡ true) × ((k : ℕ) → start ≤ k → k < i → works hs year m k ≡ false))
+    → unwrap_or r 0 ≡ measurement_day hs year m
+found_first hs year m start end None b e f = go (eqb (measurement_day hs year m) 0) refl
+  where
+    go : (t : Bool) → eqb (measurement_day hs year m) 0 ≡ t → 0 ≡ measurement_day hs year m
+    go true z = sym (eqb-true (measurement_day hs year m) 0 z)
+    go false z =
+        let is = (finds_first hs year m).found (eqb-false (measurement_day hs year m) 0 z) in
+        absurd (true≢false (sym is.works ∙ f (measurement_day hs year m) (let l = is.late in omega arith) (let w = is.within in omega arith)))
+found_first hs year m start end (Some i) b e f =
+    only_one hs year m i
+    (record { late = (let l = f.0 in omega arith); within = (let w = f.1 in omega arith); works = f.2; is_first = λ k l h. f.3 k (omega arith) h })
 
 -- two lists of holidays that agree on the days from the 25th on have the same measurement day
 module _ (hs gs : List Date) (year : ℕ) (m : Month) where

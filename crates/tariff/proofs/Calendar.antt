@@ -1,14 +1,20 @@
 -- The calendar, worked out instead of looked up: each formula is compared with the table of the months, month by month.
 use Prim.Native.Nat.{ℕ, zero, suc, ◌+◌, ◌*◌, ◌-◌, ◌/◌, ◌%◌, ◌≤◌}
 use mathlib.Core.Path.{◌≡◌, refl, sym, ap, ◌∙◌}
-use mathlib.Core.Bool.{Bool, true, false, cond, not}
+use mathlib.Core.Bool.{Bool, true, false, cond, not, ◌&&◌, and_assoc}
 use mathlib.Core.List.{List, [], ◌∷◌}
 use native.Mathlib.Omega.{arith}
 use lib.Dec.{eqb, ltb, leb}
 use lib.ListN.{get_or, take}
-use borrow.Author.Tests.{eqb-true, leb-true, ne_eqb, ltb-true}
-use Rattle.tariff.specs.Dates.{leap, divides, lengths, month_length, total}
-use Rattle.tariff.specs.Structs.{Month}
+use borrow.Author.Tests.{eqb-false, eqb-true, leb-true, ne_eqb, ltb-true}
+use Rattle.std.proofs.lemmas.Grind.{common_steps}
+use Rattle.std.specs.Ordering.{partial_lt}
+use Rattle.tariff.specs.contracts.dates.DatePartialOrd.TheImpl.{partial_cmp-value}
+use Rattle.tariff.specs.Dates.{before, leap, divides, lengths, month_length, real, same_date, total}
+use Rattle.tariff.specs.MeasurementDays.{MonthExists}
+use Rattle.tariff.specs.Months.{same_month}
+use Rattle.tariff.specs.Structs.{Date, Month}
+use Rattle.tariff.proofs.Ranges.{date_bounds}
 use Rattle.tariff.proofs.Tables.{all_below, at_each, each, entry_le}
 use Rattle.tariff.proofs.Results.{choice_le}
 
@@ -64,20 +70,28 @@ length_by_turns year m l h n =
     ∙ sym (other (leap year) (m - 1) (λ z. n (omega arith)))
     ∙ ap (λ (xs : List ℕ). get_or xs (m - 1) 0) (sym (lengths_are year))
 
+pub worked_out : (year : ℕ) (m : Month) → MonthExists year m → month_length year m ≡ cond (eqb m.0 2) (cond (leap year) 29 28) (30 + (m.0 + m.0 / 8) % 2)
+unfolding month_length
+worked_out year m x = go (eqb m.0 2) refl
+  where
+    go : (t : Bool) → eqb m.0 2 ≡ t → get_or (lengths year) (m.0 - 1) 0 ≡ cond t (cond (leap year) 29 28) (30 + (m.0 + m.0 / 8) % 2)
+    go true e = rw (eqb-true m.0 2 e, lengths_are year)
+    go false e = sym (length_by_turns year m.0 x.in_months.0 x.in_months.1 (eqb-false m.0 2 e))
+
 -- ---- the days of the months before
 
-before : Bool → ℕ → Bool
-before b m = eqb ((367 * m - 362) / 12 - cond (ltb 2 m) (cond b 1 2) 0) (total (take (m - 1) (months b)))
+counted : Bool → ℕ → Bool
+counted b m = eqb ((367 * m - 362) / 12 - cond (ltb 2 m) (cond b 1 2) 0) (total (take (m - 1) (months b)))
 
-before_each : (b : Bool) → all_below (before b) 13 ≡ true
-unfolding before total
-before_each true = refl
-before_each false = refl
+counted_each : (b : Bool) → all_below (counted b) 13 ≡ true
+unfolding counted total
+counted_each true = refl
+counted_each false = refl
 
 pub days_before : (year m : ℕ) → m ≤ 12 → (367 * m - 362) / 12 - cond (ltb 2 m) (cond (leap year) 1 2) 0 ≡ total (take (m - 1) (lengths year))
-unfolding before
+unfolding counted
 days_before year m h =
-    eqb-true _ _ (at_each (before (leap year)) 13 (before_each (leap year)) m (omega arith))
+    eqb-true _ _ (at_each (counted (leap year)) 13 (counted_each (leap year)) m (omega arith))
     ∙ ap (λ (xs : List ℕ). total (take (m - 1) xs)) (sym (lengths_are year))
 
 -- February lacks one or two days, which are never more than the days before a month behind it
@@ -111,3 +125,21 @@ shortest_each false = refl
 pub month_length_ge : (year : ℕ) (m : Month) → 1 ≤ m.0 → m.0 ≤ 12 → 28 ≤ month_length year m
 unfolding month_length shortest
 month_length_ge year m l h = rw (lengths_are year) (leb-true 28 _ (at_each (shortest (leap year)) 12 (shortest_each (leap year)) (m.0 - 1) (omega arith)))
+
+-- ---- a date that exists
+
+pub real_exists : (d : Date) → real d ≡ true → MonthExists d.year d.month
+real_exists d r = let b = date_bounds d r in record { in_years = b.year; in_months = b.month }
+
+pub real_day : (d : Date) → real d ≡ true → (1 ≤ d.day) × (d.day ≤ 31)
+real_day d r = let b = date_bounds d r in (b.day.0, omega (arith, month_length_le d.year d.month))
+
+-- ---- `==` and `<` of dates, which are derived, are the definitions: a caller's proof cites these of what the call ensures
+
+pub same_derived : (a b : Date) → eqb a.year b.year && (eqb a.month.0 b.month.0 && eqb a.day b.day) ≡ same_date a b
+unfolding same_date same_month
+same_derived a b = sym (and_assoc (eqb a.year b.year) (eqb a.month.0 b.month.0) (eqb a.day b.day))
+
+pub before_derived : (a b : Date) → partial_lt partial_cmp-value.it a b ≡ before a b
+unfolding before
+before_derived a b = grind (arith, common_steps)

@@ -1,28 +1,22 @@
 -- A forfeit is a part of what a bank has above zero, so a bank in its range stays there, whatever part is taken.
-use Prim.Native.Nat.{ℕ, zero, suc, ◌-◌, ◌≤◌}
-use mathlib.Core.Path.{◌≡◌, refl}
+use Prim.Native.Nat.{ℕ, ◌≤◌}
+use mathlib.Core.Path.{◌≡◌}
 use mathlib.Core.Bool.{Bool, true, ◌&&◌}
 use native.Mathlib.Omega.{arith}
-use lib.Dec.{leb, ltb}
-use lib.IntN.{ℤ, pos, negsuc, neg_ℤ, ◌-ℤ◌, +ℤ_idr}
+use lib.IntN.{ℤ, pos, neg_ℤ, ◌-ℤ◌}
 use lib.Signed.{le_z}
-use borrow.Author.Tests.{leb-true, le-leb, le-ltb}
+use Rattle.std.proofs.lemmas.Int.{ints}
 use Rattle.tariff.specs.Amounts.{inward, less, percent, positive_part, within}
 use Rattle.tariff.specs.Closing.{excess_over, forfeit_of, forfeit_under}
 use Rattle.tariff.specs.Months.{january, march, same_month}
 use Rattle.tariff.specs.Structs.{Dth, Month, Quantity, Units}
-use Rattle.tariff.proofs.Bools.{and_right}
 use Rattle.tariff.proofs.Results.{choice_le, part_le}
-use Rattle.tariff.proofs.Sizes.{rest_le}
 
 -- ---- how much it is at most
 
 above_part : (z : ℤ) (q : ℕ) → positive_part (z -ℤ pos q) ≤ positive_part z
 unfolding positive_part
-above_part (pos n) zero = omega arith
-above_part (pos n) (suc q) = rest_le n (suc q) (ltb n (suc q)) refl
-above_part (negsuc n) zero = rest_le 0 (suc n) (ltb 0 (suc n)) refl
-above_part (negsuc n) (suc q) = omega arith
+above_part z q = grind (arith, ints)
 
 excess_part : (bank : Units) (q : Quantity) → (excess_over bank q).0 ≤ positive_part bank.0
 unfolding excess_over inward less
@@ -36,19 +30,10 @@ forfeit_part m bcq bank =
 
 -- ---- what is left
 
-abbrev pub Between : ℕ → ℕ → ℤ → Type 0
-Between low high z = le_z (neg_ℤ (pos low)) z && le_z z (pos high) ≡ true
-
-pub not_below : (low high n : ℕ) → n ≤ high → Between low high (pos n)
-not_below zero high n h = rw (le-leb 0 n (omega arith)) (le-leb n high h)
-not_below (suc low) high n h = le-leb n high h
-
-pub left_between : (low high : ℕ) (z : ℤ) (f : ℕ) → f ≤ positive_part z → Between low high z → Between low high (z -ℤ pos f)
+pub left_between : (low high : ℕ) (z : ℤ) (f : ℕ) → f ≤ positive_part z → le_z (neg_ℤ (pos low)) z && le_z z (pos high) ≡ true
+    → le_z (neg_ℤ (pos low)) (z -ℤ pos f) && le_z (z -ℤ pos f) (pos high) ≡ true
 unfolding positive_part
-left_between low high z zero p h = rw (+ℤ_idr z) h
-left_between low high (pos n) (suc q) p h =
-    rw (le-ltb n (suc q) p) (not_below low high (n - suc q) (omega (arith, leb-true n high (and_right (le_z (neg_ℤ (pos low)) (pos n)) (leb n high) h))))
-left_between low high (negsuc n) (suc q) p h = absurd (omega arith)
+left_between low high z f p h = grind (arith, ints)
 
 pub forfeit_stays : (low high : ℕ) (new : Bool) (confiscated : Quantity) (m : Month) (bcq : Dth) (bank : Units) → within low high bank ≡ true
     → within low high (less bank (forfeit_under new confiscated (forfeit_of m bcq bank))) ≡ true

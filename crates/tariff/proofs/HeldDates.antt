@@ -1,62 +1,43 @@
--- The places that are looked at are those that are held: a loop over them takes one date after the other from those to come.
+-- What the places of a holiday list hold: those taken, a list stored anew, and one with the dates before a day left out.
 use Prim.Native.Nat.{ℕ, suc, ◌+◌, ◌-◌, ◌≤◌, ◌<◌, min}
 use mathlib.Core.Path.{◌≡◌, refl, sym, ap, ◌∙◌}
 use mathlib.Core.Bool.{Bool, true, false, cond, not, ◌&&◌, ◌||◌, and-false}
 use mathlib.Core.List.{List, [], ◌∷◌, ◌++◌}
 use native.Mathlib.Numerals.{add-one}
 use native.Mathlib.Omega.{arith}
-use lib.Dec.{leb}
-use lib.ListN.{length, drop, get_or, replicate, set, take, drop_of_length-le, length-append}
-use lib.Seq.{append_snoc, drop-cons, get_or-take, length-take-le, set-append_seam, take_all, take-append_seam, take-suc}
-use borrow.Author.Tests.{leb-true, leb-false}
-use Rattle.tariff.specs.Dates.{before, same_date}
-use Rattle.tariff.specs.Holidays.{Without, held_dates, kept_from, named, no_date, stored_dates}
+use lib.Dec.{eqb}
+use Rattle.std.specs.List.{list_all, list_any}
+use Rattle.std.proofs.lemmas.List.{append-nil, take_min}
+use lib.ListN.{length, get_or, replicate, set, take, length-append, length-take}
+use lib.Seq.{append_snoc, set-append_seam, take-append_seam, take-suc}
+use borrow.Author.Tests.{le-leb, le-ltb}
+use Rattle.tariff.specs.Dates.{before, real, same_date}
+use Rattle.tariff.specs.Holidays.{Without, all_leave_one, held_dates, holidays_in_range, kept_from, leaves_one, named, no_date, stored_dates}
 use Rattle.tariff.specs.Holidays.Without.{gone, left, none}
 use Rattle.tariff.specs.Structs.{Date, Holidays}
+use Rattle.tariff.proofs.Calendar.{same_derived}
 use Rattle.tariff.proofs.Laws.{same_date_is}
 
--- how far a loop over the places has come
-pub record Walked (h : Holidays) (n i : ℕ) : Type 0 where
-  pub sized : length h.dates ≡ 16
-  pub places : n ≡ min h.count 16
-  pub within : i ≤ n
+-- the places taken, of sixteen
+pub held_places : (h : Holidays) → length h.dates ≡ 16 → held_dates h ≡ take (min h.count 16) h.dates
+unfolding held_dates
+held_places h s = rw (← s) (sym (take_min h.count h.dates))
 
-module _ (h : Holidays) (n i : ℕ) (w : Walked h n i) where
-  pub held_is : held_dates h ≡ take n h.dates
-  unfolding held_dates
-  held_is = go (leb h.count 16) refl
-    where
-      go : (t : Bool) → leb h.count 16 ≡ t → take h.count h.dates ≡ take n h.dates
-      go true e = let same : n ≡ h.count = omega (arith, w.places, leb-true h.count 16 e) in rw same
-      go false e =
-          let all : n ≡ 16 = omega (arith, w.places, leb-false h.count 16 e) in
-          rw (all, take_all h.count h.dates (omega (arith, w.sized, leb-false h.count 16 e)), take_all 16 h.dates (omega (arith, w.sized)))
+-- a date is named where one of those held is the same
+pub named_any : (hs : List Date) (d : Date) → named hs d ≡ list_any (λ h. eqb h.year d.year && (eqb h.month.0 d.month.0 && eqb h.day d.day)) hs
+unfolding named
+named_any [] d = refl
+named_any (h ∷ hs) d = rw (same_derived h d, named_any hs d)
 
-  pub held_length : length (held_dates h) ≡ n
-  held_length = ap length held_is ∙ length-take-le n h.dates (omega (arith, w.places, w.sized))
+all_fit : (hs ds : List Date) → all_leave_one hs ds ≡ list_all (λ d. real d && leaves_one hs d) ds
+unfolding all_leave_one
+all_fit hs [] = refl
+all_fit hs (d ∷ ds) = rw (all_fit hs ds)
 
-  pub held_at : (d : Date) → i < n → get_or (held_dates h) i d ≡ get_or h.dates i d
-  held_at d l = ap (λ (xs : List Date). get_or xs i d) held_is ∙ get_or-take n h.dates i d l
-
-  pub walked_next : (next : ℕ) → i < n → next ≡ i + 1 → Walked h n next
-  walked_next next l e = record { sized = w.sized; places = w.places; within = omega arith }
-
-  -- the date in hand and those to come
-  pub to_come : (d : Date) → i < n → drop i (held_dates h) ≡ get_or h.dates i d ∷ drop (i + 1) (held_dates h)
-  to_come d l = rw add-one (drop-cons (held_dates h) i d (omega (arith, held_length)) ∙ ap (λ (x : Date). x ∷ drop (suc i) (held_dates h)) (held_at d l))
-
-  pub none_to_come : n ≤ i → drop i (held_dates h) ≡ []
-  none_to_come l = drop_of_length-le (held_dates h) {i = i} (omega (arith, held_length))
-
-  -- those passed, and the date in hand
-  pub passed_next : (d : Date) → i < n → take (i + 1) (held_dates h) ≡ take i (held_dates h) ++ (get_or h.dates i d ∷ [])
-  passed_next d l = rw add-one (take-suc (held_dates h) i d (omega (arith, held_length)) ∙ ap (λ (x : Date). take i (held_dates h) ++ (x ∷ [])) (held_at d l))
-
-  pub all_passed : n ≤ i → take i (held_dates h) ≡ held_dates h
-  all_passed l = take_all i (held_dates h) (omega (arith, held_length))
-
-  pub passed_length : length (take i (held_dates h)) ≡ i
-  passed_length = length-take-le i (held_dates h) (omega (arith, held_length, w.within))
+-- where no more than sixteen are counted, each is tried
+pub ranged_is : (h : Holidays) → h.count ≤ 16 → list_all (λ d. real d && leaves_one (held_dates h) d) (held_dates h) ≡ holidays_in_range h
+unfolding holidays_in_range
+ranged_is h l = rw (le-leb h.count 16 l) (sym (all_fit (held_dates h) (held_dates h)))
 
 -- ---- a list stored anew
 
@@ -72,14 +53,15 @@ length_snoc : (hs : List Date) (d : Date) → length (hs ++ (d ∷ [])) ≡ leng
 length_snoc hs d = length-append hs (d ∷ [])
 
 -- the first free place
-pub stored_next : (h : Holidays) (d : Date) (hs : List Date) → h.count < 16 → h ≡ stored_dates hs
-    → record { count = h.count + 1; dates = set h.dates h.count d } ≡ stored_dates (hs ++ (d ∷ []))
+pub stored_next : (h : Holidays) (d : Date) (hs : List Date) (i : ℕ) → h.count < 16 → i ≡ min h.count 16 → h ≡ stored_dates hs
+    → record { count = h.count + 1; dates = set h.dates i d } ≡ stored_dates (hs ++ (d ∷ []))
 unfolding stored_dates
-stored_next h d hs l e =
+stored_next h d hs i l at e =
+    let place : i ≡ h.count = omega arith in
     let size : h.count ≡ length hs = ap (λ (x : Holidays). x.count) e in
     let free : 16 - length hs ≡ suc (15 - length hs) = omega arith in
     let left : 16 - (length hs + 1) ≡ 15 - length hs = omega arith in
-    rw (e, length_snoc hs d, free, left, set-append_seam hs no_date (replicate (15 - length hs) no_date) d, append_snoc hs d (replicate (15 - length hs) no_date))
+    rw (place, e, length_snoc hs d, free, left, set-append_seam hs no_date (replicate (15 - length hs) no_date) d, append_snoc hs d (replicate (15 - length hs) no_date))
 
 -- ---- those that are kept
 
@@ -92,6 +74,54 @@ kept_append first d (h ∷ hs) = go (before h first) (kept_append first d hs)
         → cond t (kept_from first (hs ++ (d ∷ []))) (h ∷ kept_from first (hs ++ (d ∷ []))) ≡ cond t (kept_from first hs) (h ∷ kept_from first hs) ++ kept_from first (d ∷ [])
     go true e = e
     go false e = ap (λ (xs : List Date). h ∷ xs) e
+
+pub kept_length : (first : Date) (hs : List Date) → length (kept_from first hs) ≤ length hs
+unfolding kept_from
+kept_length first [] = omega arith
+kept_length first (h ∷ hs) = go (before h first) (kept_length first hs)
+  where
+    go : (t : Bool) → length (kept_from first hs) ≤ length hs → length (cond t (kept_from first hs) (h ∷ kept_from first hs)) ≤ suc (length hs)
+    go true l = omega arith
+    go false l = omega arith
+
+-- no date lies before the first of all
+all_kept : (hs : List Date) → kept_from no_date hs ≡ hs
+unfolding kept_from before
+all_kept [] = refl
+all_kept (h ∷ hs) =
+    rw (le-ltb h.year 0 (omega arith), le-ltb h.month.0 0 (omega arith), le-ltb h.day 0 (omega arith)) (go (eqb h.year 0) (eqb h.month.0 0) (all_kept hs))
+  where
+    go : (t u : Bool) → kept_from no_date hs ≡ hs → cond (false || (t && (false || (u && false)))) (kept_from no_date hs) (h ∷ kept_from no_date hs) ≡ h ∷ hs
+    go true true e = ap (λ (xs : List Date). h ∷ xs) e
+    go true false e = ap (λ (xs : List Date). h ∷ xs) e
+    go false u e = ap (λ (xs : List Date). h ∷ xs) e
+
+pub stored_all : (first : Date) (h next : Holidays) → first ≡ no_date → next ≡ stored_dates (kept_from first (held_dates h)) → next ≡ stored_dates (held_dates h)
+stored_all first h next z e = e ∙ ap stored_dates (rw z (all_kept (held_dates h)))
+
+-- where fewer than sixteen are counted, and stored anew, there is a place
+pub room_all : (first : Date) (h next : Holidays) → first ≡ no_date → next ≡ stored_dates (kept_from first (held_dates h)) → h.count < 16 → next.count < 16
+unfolding held_dates
+room_all first h next z e l =
+    omega (arith, ap (λ (x : Holidays). x.count) (stored_all first h next z e), stored_count (take h.count h.dates), length-take h.count h.dates)
+
+-- the next date, by whether it lies before
+module _ (first : Date) (items : List Date) (i : ℕ) (d : Date) (l : i < length items) where
+  next_of : kept_from first (take (i + 1) items) ≡ kept_from first (take i items) ++ kept_from first (get_or items i d ∷ [])
+  next_of = rw (add-one, take-suc items i d l) (kept_append first (get_or items i d) (take i items))
+
+  pub gone_next : before (get_or items i d) first ≡ true → kept_from first (take (i + 1) items) ≡ kept_from first (take i items)
+  unfolding kept_from
+  gone_next b = next_of ∙ rw b (append-nil (kept_from first (take i items)))
+
+  pub kept_next : before (get_or items i d) first ≡ false → kept_from first (take (i + 1) items) ≡ kept_from first (take i items) ++ (get_or items i d ∷ [])
+  unfolding kept_from
+  kept_next b = next_of ∙ rw b refl
+
+-- where no more are kept than passed, and fewer than sixteen were, there is a place
+pub room_kept : (h : Holidays) (first : Date) (items : List Date) (i : ℕ) → h ≡ stored_dates (kept_from first (take i items)) → i < 16 → h.count < 16
+room_kept h first items i e l =
+    omega (arith, ap (λ (x : Holidays). x.count) e, stored_count (kept_from first (take i items)), kept_length first (take i items), length-take i items)
 
 -- a date is kept exactly where it was held and does not lie before
 pub kept_members : (first : Date) (hs : List Date) (x : Date) → named (kept_from first hs) x ≡ named hs x && not (before x first)
@@ -122,12 +152,3 @@ kept_without first (h ∷ hs) = go (before h first) refl (kept_without first hs)
 pub none_from : (first : Date) → kept_from first [] ≡ []
 unfolding kept_from
 none_from first = refl
-
-pub kept_length : (first : Date) (hs : List Date) → length (kept_from first hs) ≤ length hs
-unfolding kept_from
-kept_length first [] = omega arith
-kept_length first (h ∷ hs) = go (before h first) (kept_length first hs)
-  where
-    go : (t : Bool) → length (kept_from first hs) ≤ length hs → length (cond t (kept_from first hs) (h ∷ kept_from first hs)) ≤ suc (length hs)
-    go true l = omega arith
-    go false l = omega arith

@@ -1,12 +1,13 @@
 -- The laws of the amounts that the layers above go by: what each definition makes of the numbers, so that none of them opens a definition.
-use Prim.Native.Nat.{ℕ, zero, suc, ◌+◌, ◌≤◌, min}
-use mathlib.Core.Path.{◌≡◌, refl, sym}
+use Prim.Native.Nat.{ℕ, ◌+◌, ◌≤◌, min}
+use mathlib.Core.Path.{◌≡◌, refl}
 use mathlib.Core.Bool.{Bool, true, cond, ◌&&◌}
 use native.Mathlib.Omega.{arith}
-use lib.Dec.{eqb, leb}
+use lib.Dec.{eqb}
 use lib.Signed.{le_z}
-use borrow.Author.Tests.{le-leb, eq-eqb, eqb-true}
-use lib.IntN.{ℤ, pos, negsuc, ◌+ℤ◌, ◌-ℤ◌, neg_ℤ, +ℤ_idl, +ℤ_idr}
+use borrow.Author.Tests.{eq-eqb, eqb-true}
+use lib.IntN.{ℤ, pos, ◌+ℤ◌, ◌-ℤ◌, neg_ℤ}
+use Rattle.std.proofs.lemmas.Int.{ints}
 use Rattle.tariff.specs.Amounts.{nothing, amount_of, sum, more, less, opposite, positive_part, inward, outward, within, size, together, added, within_mills, size_mills}
 use Rattle.tariff.specs.Dates.{same_date}
 use Rattle.tariff.specs.Months.{same_month}
@@ -53,9 +54,7 @@ added_value a b = refl
 -- an amount is what it brings in less what it takes out
 parts : (z : ℤ) → z ≡ pos (positive_part z) -ℤ pos (positive_part (neg_ℤ z))
 unfolding positive_part
-parts (pos zero) = refl
-parts (pos (suc n)) = sym (+ℤ_idr (pos (suc n)))
-parts (negsuc n) = sym (+ℤ_idl (negsuc n))
+parts z = grind (arith, ints)
 
 pub in_and_out : (a : Units) → a.0 ≡ pos (inward a).0 -ℤ pos (outward a).0
 unfolding inward outward opposite
@@ -81,12 +80,8 @@ pub outward_zero : (a : Units) → a.0 ≡ pos 0 → (outward a).0 ≡ 0
 unfolding outward inward opposite positive_part
 outward_zero a h = rw h
 
-leb_zero : (n : ℕ) → leb 0 n ≡ true
-leb_zero n = le-leb 0 n (omega arith)
-
 zero_between : (low high : ℕ) → le_z (neg_ℤ (pos low)) (pos 0) && le_z (pos 0) (pos high) ≡ true
-zero_between zero high = leb_zero high
-zero_between (suc low) high = leb_zero high
+zero_between low high = grind (arith, ints)
 
 pub within_zero : (low high : ℕ) (a : Units) → a.0 ≡ pos 0 → within low high a ≡ true
 unfolding within

@@ -14,5 +14,6 @@ pub mod HeldDates
 pub mod BusinessDays
 pub mod Laws
 pub mod Ranges
-pub mod StepTests
 pub mod Percentages
+pub mod Charges
+pub mod Capacities

@@ -6,9 +6,8 @@ use native.Mathlib.Omega.{arith}
 use native.Mathlib.Nat.{mul-le-mul_left, mul_comm, mul_assoc, div-le_of_le-mul}
 use borrow.Author.Tests.{leb-true}
 use Rattle.tariff.specs.Terms.{terms_in_range, mddq_of, bcq_of}
-use Rattle.tariff.specs.Bill.{prices_in_range}
 use Rattle.tariff.specs.Dates.{real, month_length}
-use Rattle.tariff.specs.Structs.{Date, Dth, Prices, Terms}
+use Rattle.tariff.specs.Structs.{Date, Dth, Terms}
 use Rattle.tariff.proofs.Bools.{parts}
 
 pub record TermsBounds (t : Terms) : Type 0 where
@@ -29,22 +28,6 @@ terms_bounds t h =
           (leb-true t.no_notice.0 t.storage.0 (search parts), leb-true t.storage.0 (100 * t.no_notice.0) (search parts));
       retainage = leb-true t.retainage 9999 (search parts);
       rates = (leb-true t.demand_rate 100000 (search parts), leb-true t.commodity_rate 100000 (search parts));
-    }
-
-pub record PriceBounds (p : Prices) : Type 0 where
-  pub inventory : p.inventory ≤ 100000
-  pub highest : p.highest ≤ 100000
-  pub lowest : p.lowest ≤ 100000
-  pub pipeline : p.pipeline ≤ 100000
-
-pub price_bounds : (p : Prices) → prices_in_range p ≡ true → PriceBounds p
-unfolding prices_in_range
-price_bounds p h =
-    record {
-      inventory = leb-true p.inventory 100000 (search parts);
-      highest = leb-true p.highest 100000 (search parts);
-      lowest = leb-true p.lowest 100000 (search parts);
-      pipeline = leb-true p.pipeline 100000 (search parts);
     }
 
 pub record DateBounds (d : Date) : Type 0 where

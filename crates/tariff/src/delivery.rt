@@ -1,59 +1,83 @@
 // A day's delivery: what it adds to the bank, and the limits on a day.
-ghost use Rattle.std.specs.Prelude.{◌≡◌, ◌≤◌};
-ghost use Rattle.tariff.specs.Amounts.{size};
+ghost use Rattle.std.specs.Prelude.{◌≡◌, ◌≤◌, not};
+ghost use Rattle.tariff.specs.Amounts.{size, below, percent};
 ghost use Rattle.tariff.specs.Delivery.{retained, days_of_injection, breaks_v1, share_of, breaks_v2};
-ghost use Rattle.tariff.specs.Bounds.{most_bcq, most_mdq, most_retainage, most_units};
+ghost use Rattle.tariff.specs.Bounds.{most_mdq, most_retainage, most_units};
 
 use crate::amounts::{Dth, Quantity, Units};
-use crate::choice::choose;
+use crate::limits::{Limits, Percent};
 use crate::months::Month;
 
 // What retainage leaves of delivered less back-cast, rounded toward zero.
+#[tactic(auto, using(crate::proofs::Signed::sums))]
 pub fn retained(retainage: u64, delivered: Quantity, back_cast: Quantity) -> Units
     requires { (retainage ≤ most_retainage) × (delivered.0 ≤ most_units) × (back_cast.0 ≤ most_units) }
     ensures value { result ≡ retained retainage delivered back_cast }
     ensures bounded { size result ≤ most_units }
 {
-    let keep = (10000 - retainage) as i64;
-    let difference = (delivered.0 as i64) - (back_cast.0 as i64);
+    let keep = (10000 - retainage).cast_signed();
+    let difference = delivered.0.cast_signed() - back_cast.0.cast_signed();
     Units(difference * keep / 10000)
 }
 
 // The days into which a month's limit on injections is divided.
+#[tactic(auto, unfolding(crate::specs::Delivery::days_of_injection, crate::specs::Months::same_month, crate::specs::Months::november, crate::specs::Months::december))]
 fn days_of_injection(m: Month) -> u64
     ensures value { result ≡ days_of_injection m }
     ensures bounded { result ≤ 30 }
 {
-    choose(m.is(Month::NOVEMBER) | m.is(Month::DECEMBER), 30, 25)
+    if m == Month::NOVEMBER || m == Month::DECEMBER {
+        30
+    } else {
+        25
+    }
 }
 
-pub fn breaks_v1(m: Month, bcq: Dth, amount: Units) -> bool
-    requires { (bcq.0 ≤ most_bcq) × (size amount ≤ most_units) }
-    ensures { result ≡ breaks_v1 m bcq amount }
-{
-    let most = Quantity::percent(m.mmbq(), bcq);
-    let injected = amount.inward();
-    most.0 < days_of_injection(m) * injected.0
+impl Limits {
+    #[tactic(auto, unfolding(crate::specs::Delivery::breaks_v1))]
+    pub fn breaks_v1(self, amount: Units) -> bool
+        requires { size amount ≤ most_units }
+        ensures { result ≡ breaks_v1 self.month self.bcq amount }
+    {
+        let most = self.percent(self.month.most_added());
+        let injected = amount.inward();
+        most.0 < days_of_injection(self.month) * injected.0
+    }
+
+    fn holds(self, bank: Units, share: Percent) -> bool
+        ensures { result ≡ not (below bank (percent share.hundredths self.bcq)) }
+    {
+        !bank.below(self.percent(share))
+    }
+
+    // The share of the MDDQ that may be withdrawn in a day.
+    #[tactic(auto, unfolding(crate::specs::Delivery::share_of))]
+    pub fn open_share(self, bank: Units, back_cast: Quantity, mdq: Dth) -> Percent
+        requires { mdq.0 ≤ most_mdq }
+        ensures value { result.hundredths ≡ share_of bank self.bcq back_cast mdq }
+        ensures bounded { result.hundredths ≤ 100 }
+    {
+        let cold = 100 * mdq.0 <= back_cast.0;
+        let share = if cold || self.holds(bank, Percent::of(30)) {
+            100
+        } else if self.holds(bank, Percent::of(20)) {
+            80
+        } else if self.holds(bank, Percent::of(10)) {
+            65
+        } else {
+            50
+        };
+        Percent::of(share)
+    }
 }
 
-// The share of the MDDQ, in percent, that may be withdrawn in a day.
-pub fn share_of(bank: Units, bcq: Dth, back_cast: Quantity, mdq: Dth) -> u64
-    requires { (bcq.0 ≤ most_bcq) × (mdq.0 ≤ most_mdq) }
-    ensures value { result ≡ share_of bank bcq back_cast mdq }
-    ensures bounded { result ≤ 100 }
-{
-    let thirty = !bank.below(Quantity::percent(30, bcq));
-    let twenty = !bank.below(Quantity::percent(20, bcq));
-    let ten = !bank.below(Quantity::percent(10, bcq));
-    let cold = 100 * mdq.0 <= back_cast.0;
-    choose(thirty | cold, 100, choose(twenty, 80, choose(ten, 65, 50)))
-}
-
-pub fn breaks_v2(share: u64, mddq: Dth, amount: Units) -> bool
-    requires { (share ≤ 100) × (mddq.0 ≤ most_mdq) × (size amount ≤ most_units) }
-    ensures { result ≡ breaks_v2 share mddq amount }
-{
-    let most = Quantity::percent(share, mddq);
-    let withdrawn = amount.outward();
-    most.0 < withdrawn.0
+impl Percent {
+    // Of a day's withdrawal and the share of the MDDQ that is open.
+    #[tactic(auto, unfolding(crate::specs::Delivery::breaks_v2))]
+    pub fn breaks_v2(self, mddq: Dth, amount: Units) -> bool
+        requires { (mddq.0 ≤ most_mdq) × (size amount ≤ most_units) }
+        ensures { result ≡ breaks_v2 self.hundredths mddq amount }
+    {
+        self.of_capacity(mddq) < amount.outward()
+    }
 }

@@ -1,15 +1,15 @@
 // The days that are named as holidays, and the day of a month on which meters are read.
-ghost use Rattle.std.specs.Prelude.{◌≡◌, true, false, cond, List, [], ◌∷◌, ◌++◌, ◌<◌, ◌≤◌, min, length};
-ghost use Rattle.tariff.specs.Dates.{before, real};
-ghost use Rattle.tariff.specs.Holidays.{no_date, held_dates, stored_dates, named, business_day, measurement_day, on_measurement_day, leaves_one, holidays_in_range, kept_from};
+ghost use Rattle.std.specs.Prelude.{◌≡◌, true, ◌&&◌, List, [], ◌∷◌, ◌++◌, ◌<◌, ◌≤◌, length, min, unwrap_or, IfSome};
+ghost use Rattle.tariff.specs.Dates.{real};
+ghost use Rattle.tariff.specs.Holidays.{held_dates, stored_dates, named, business_day, measurement_day, on_measurement_day, leaves_one, holidays_in_range, kept_from};
 ghost use Rattle.tariff.specs.declared.dates.Date as declared;
 
-use crate::dates::{Date, month_length};
-use crate::months::Month;
+use crate::dates::{CalendarDay, CalendarMonth, Date};
+use crate::ranged::InRange;
 
-// The first `count` places are taken, in the order of posting.
+// C lends it as it is, with a count beside sixteen places: the first `count` of them are taken, in the order of posting.
 #[repr(C)]
-#[derive(Clone, Copy)]
+#[derive(Clone, Copy, Default)]
 pub struct Holidays {
     pub count: u64,
     pub dates: [Date; 16],
@@ -17,157 +17,114 @@ pub struct Holidays {
 
 // Three functions stand in the image once each, not once in every caller: that keeps it small (docs/DECISIONS.md, 168).
 impl Holidays {
+    // The default, told as the empty list stored: callers above do not open what that is.
+    #[tactic(auto, unfolding(crate::specs::Holidays::stored_dates))]
     pub fn none() -> Holidays
         ensures { result ≡ stored_dates [] }
     {
-        let nowhere = Date {
-            year: 0,
-            month: Month(0),
-            day: 0,
-        };
-        let dates = [nowhere; 16];
-        Holidays { count: 0, dates }
+        Holidays::default()
     }
 
-    // How many places to look at; a count above sixteen is out of range and counts no more places than there are.
-    fn taken(self) -> usize
-        ensures { result ≡ min self.count 16 }
+    // The dates held. A count above sixteen is out of range and counts no more places than there are. C's count has no From into a usize.
+    #[tactic(auto, unfolding(crate::specs::Holidays::held_dates), using(crate::proofs::HeldDates::held_places))]
+    fn held(&self) -> &[Date]
+        ensures value { result.now ≡ held_dates self.now }
+        ensures counted { length result.now ≡ min self.now.count 16 }
     {
-        if 16 <= self.count {
-            return 16;
-        }
-        self.count as usize
+        &self.dates[..self.count.min(16) as usize]
     }
 
     #[inline(never)]
-    pub fn names(self, d: Date) -> bool
-        ensures { result ≡ named (held_dates self) d }
+    #[tactic(auto, using(crate::proofs::HeldDates::named_any))]
+    pub fn names(&self, d: Date) -> bool
+        ensures { result ≡ named (held_dates self.now) d }
     {
-        let n = self.taken();
-        let mut found = false;
-        for i in 0..n {
-            let h = self.dates[i];
-            let same = h.same(d);
-            found = found | same;
-        }
-        found
+        self.held().iter().any(|h| *h == d)
     }
 
     // Monday to Friday, and none of them.
-    fn business_day(self, d: Date) -> bool
-        requires in_years { (2000 ≤ d.year) × (d.year ≤ 2099) }
-        requires in_months { (1 ≤ d.month.0) × (d.month.0 ≤ 12) }
-        requires in_days { (1 ≤ d.day) × (d.day ≤ 31) }
-        ensures { result ≡ business_day (held_dates self) d }
+    #[tactic(auto, unfolding(crate::specs::Holidays::business_day))]
+    fn business_day(&self, day: CalendarDay) -> bool
+        ensures { result ≡ business_day (held_dates self.now) day.date }
     {
-        let weekday = d.weekday();
-        if 5 <= weekday {
-            return false;
-        }
-        !self.names(d)
+        day.weekday() < 5 && !self.names(day.date)
     }
 
-    // The first business day from the 25th on, or 0 where the month has none left.
+    // The first business day from the 25th on, where the month has one left.
     #[inline(never)]
-    pub fn measurement_day(self, year: u64, month: Month) -> u64
-        requires in_years { (2000 ≤ year) × (year ≤ 2099) }
-        requires in_months { (1 ≤ month.0) × (month.0 ≤ 12) }
-        ensures { result ≡ measurement_day (held_dates self) year month }
+    pub fn measured_on(&self, month: CalendarMonth) -> Option<u64>
+        ensures day { unwrap_or result 0 ≡ measurement_day (held_dates self.now) month.year month.month }
+        ensures late { IfSome result (λ day. 25 ≤ day) }
     {
-        let last = month_length(year, month);
-        let mut day = 25;
-        while day <= last {
-            let date = Date { year, month, day };
-            let works = self.business_day(date);
-            if works {
-                return day;
-            }
-            day = day + 1;
-        }
-        0
+        (25..month.length() + 1).find(|day| self.business_day(month.day(*day)))
     }
 
-    pub fn on_measurement_day(self, d: Date) -> bool
-        requires { real d ≡ true }
-        ensures { result ≡ on_measurement_day (held_dates self) d }
+    // Meters are read on this date.
+    #[tactic(auto, using(crate::proofs::Calendar::real_day), unfolding(crate::specs::Holidays::on_measurement_day))]
+    pub fn measured(&self, d: InRange<Date>) -> bool
+        ensures { result ≡ on_measurement_day (held_dates self.now) d.value }
     {
-        let month = d.month;
-        let day = self.measurement_day(d.year, month);
-        d.day == day
+        let date = d.get();
+        self.measured_on(d.month())
+            .is_some_and(|day| day == date.day)
     }
 
-    pub fn leaves_one(self, d: Date) -> bool
-        requires { real d ≡ true }
-        ensures { result ≡ leaves_one (held_dates self) d }
+    // The month of this date has a day left to read meters on.
+    #[tactic(auto, unfolding(crate::specs::Holidays::leaves_one))]
+    pub fn leaves_day(&self, d: InRange<Date>) -> bool
+        ensures { result ≡ leaves_one (held_dates self.now) d.value }
     {
-        let month = d.month;
-        let day = self.measurement_day(d.year, month);
-        !(day == 0)
+        self.measured_on(d.month()).is_some()
     }
 
-    pub fn in_range(self) -> bool
-        ensures { result ≡ holidays_in_range self }
+    // The date exists, and its month has a day left to read meters on.
+    fn fits(&self, d: Date) -> bool
+        ensures { result ≡ (real d && leaves_one (held_dates self.now) d) }
     {
-        let n = self.taken();
-        let mut ok = self.count <= 16;
-        for i in 0..n {
-            let h = self.dates[i];
-            if !h.real() {
-                return false;
-            }
-            let left = self.leaves_one(h);
-            ok = ok & left;
-        }
-        ok
+        InRange::checked(d).is_some_and(|d| self.leaves_day(d))
     }
 
-    // With a date in the next place, where the others are stored in theirs.
-    fn followed_by(self, d: Date) -> Holidays
-        requires { self.count < 16 }
-        ensures { (hs : List declared.Date) → self ≡ stored_dates hs → result ≡ stored_dates (hs ++ d ∷ []) }
+    #[tactic(auto, unfolding(crate::specs::Holidays::holidays_in_range))]
+    pub fn in_range(&self) -> bool
+        ensures { result ≡ holidays_in_range self.now }
     {
-        let i = self.count as usize;
-        let mut next = self;
-        next.dates[i] = d;
-        next.count = self.count + 1;
-        next
+        self.count <= 16 && self.held().iter().all(|d| self.fits(*d))
+    }
+
+    // One more date in the next place, where the others are stored in theirs.
+    #[tactic(auto, using(crate::proofs::HeldDates::stored_next))]
+    fn push(&mut self, d: Date)
+        requires { self.old.count < 16 }
+        ensures { (hs : List declared.Date) → self.old ≡ stored_dates hs → self.new ≡ stored_dates (hs ++ d ∷ []) }
+    {
+        let i = self.held().len();
+        self.dates[i] = d;
+        self.count += 1;
     }
 
     // With one more, stored anew.
     #[inline(never)]
-    pub fn naming(self, d: Date) -> Holidays
-        requires { self.count < 16 }
-        ensures { result ≡ stored_dates (held_dates self ++ d ∷ []) }
+    #[tactic(auto, using(crate::proofs::HeldDates::stored_all))]
+    pub fn naming(&self, d: Date) -> Holidays
+        requires { self.now.count < 16 }
+        ensures { result ≡ stored_dates (held_dates self.now ++ d ∷ []) }
     {
-        let n = self.taken();
-        let mut next = Holidays::none();
-        for i in 0..n {
-            let h = self.dates[i];
-            next = next.followed_by(h);
-        }
-        next.followed_by(d)
-    }
-
-    // With a date in the next place, unless it lies before another.
-    fn keeping(self, d: Date, first: Date) -> Holidays
-        requires { self.count < 16 }
-        ensures { (hs : List declared.Date) → self ≡ stored_dates hs → result ≡ stored_dates (hs ++ kept_from first (d ∷ [])) }
-    {
-        if d.before(first) {
-            return self;
-        }
-        self.followed_by(d)
+        // No date lies before the default one.
+        let mut next = self.kept_from(Date::default());
+        next.push(d);
+        next
     }
 
     // Without those before a date, stored anew.
-    pub fn kept_from(self, first: Date) -> Holidays
-        ensures { result ≡ stored_dates (kept_from first (held_dates self)) }
+    #[tactic(auto, using(crate::proofs::Calendar::before_derived, crate::proofs::HeldDates::none_from, crate::proofs::HeldDates::gone_next, crate::proofs::HeldDates::kept_next, crate::proofs::HeldDates::room_kept))]
+    pub fn kept_from(&self, first: Date) -> Holidays
+        ensures { result ≡ stored_dates (kept_from first (held_dates self.now)) }
     {
-        let n = self.taken();
         let mut next = Holidays::none();
-        for i in 0..n {
-            let h = self.dates[i];
-            next = next.keeping(h, first);
+        for h in self.held() {
+            if !(*h < first) {
+                next.push(*h);
+            }
         }
         next
     }

@@ -4,7 +4,6 @@
 pub mod amounts;
 pub mod bill;
 pub mod bounds;
-mod choice;
 pub mod closing;
 pub mod dates;
 pub mod delivery;
@@ -12,6 +11,7 @@ pub mod enrol;
 pub mod holidays;
 pub mod limits;
 pub mod months;
+pub mod ranged;
 pub mod steps;
 pub mod terms;
 

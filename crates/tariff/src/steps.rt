@@ -4,10 +4,9 @@ ghost use Rattle.tariff.specs.Steps.{step_of, first_step, is_over, is_under, cro
 ghost use Rattle.tariff.specs.Bounds.{most_mdq};
 
 use crate::amounts::Dth;
-use crate::choice::{choose, larger};
 
 #[repr(C)]
-#[derive(Clone, Copy)]
+#[derive(Clone, Copy, PartialEq, Eq, Default, Debug)]
 pub struct Step {
     pub k: u64,
     // Becomes k at the month's end.
@@ -18,15 +17,15 @@ pub struct Step {
 }
 
 // MDQ / 3,000, rounded up.
+#[tactic(auto, unfolding(crate::specs::Steps::step_of))]
 fn step_of(mdq: Dth) -> u64
-    requires { mdq.0 ≤ most_mdq }
-    ensures value { result ≡ step_of mdq }
-    ensures bounded { result ≤ 100 }
+    ensures { result ≡ step_of mdq }
 {
-    (mdq.0 + 2999) / 3000
+    mdq.0.div_ceil(3000)
 }
 
 impl Step {
+    #[tactic(auto, unfolding(crate::specs::Steps::first_step, crate::specs::Steps::step_of))]
     pub fn first(mdq: Dth) -> Step
         requires { mdq.0 ≤ most_mdq }
         ensures value { result ≡ first_step mdq }
@@ -36,66 +35,73 @@ impl Step {
         Step {
             k,
             pending: k,
-            over: 0,
-            under: 0,
+            ..Step::default()
         }
     }
 
     // The four tests compare steps and not 3,000 × k, so that no k of a ledger handed in can overflow them.
+    #[tactic(auto, unfolding(crate::specs::Steps::is_over, crate::specs::Steps::step_of))]
     fn is_over(self, m: Dth) -> bool
-        requires { m.0 ≤ most_mdq }
         ensures { result ≡ is_over self m }
     {
-        self.k < (m.0 + 2999) / 3000
+        self.k < step_of(m)
     }
 
+    #[tactic(auto, unfolding(crate::specs::Steps::is_under))]
     fn is_under(self, m: Dth) -> bool
-        requires { m.0 ≤ most_mdq }
         ensures { result ≡ is_under self m }
     {
         m.0 / 3000 + 1 < self.k
     }
 
+    #[tactic(auto, unfolding(crate::specs::Steps::crosses))]
     fn crosses(self, m: Dth) -> bool
-        requires { m.0 ≤ most_mdq }
         ensures { result ≡ crosses self m }
     {
+        let far_over = 500 <= m.0 && self.k <= (m.0 - 500) / 3000;
         let third_over = self.is_over(m) & (2 <= self.over);
+        let edge = if m.0 % 3000 <= 2500 { 1 } else { 2 };
+        let far_under = m.0 / 3000 + edge < self.k;
         let third_under = self.is_under(m) & (2 <= self.under);
-        let far_over = self.k < (m.0 + 2500) / 3000;
-        let far_under = (m.0 + 3499) / 3000 < self.k;
         far_over | third_over | far_under | third_under
     }
 
     // What a measured MDQ makes of the step.
+    #[tactic(auto, unfolding(crate::specs::Steps::measured))]
     pub fn measured(self, m: Dth) -> Step
-        requires { (m.0 ≤ most_mdq) × (self.over ≤ 2) × (self.under ≤ 2) }
+        requires { (self.over ≤ 2) × (self.under ≤ 2) }
         ensures { result ≡ measured self m }
     {
-        let crosses = self.crosses(m);
-        let pending = choose(crosses, larger(1, step_of(m)), self.k);
-        let over = choose(crosses, 0, choose(self.is_over(m), self.over + 1, 0));
-        let under = choose(crosses, 0, choose(self.is_under(m), self.under + 1, 0));
+        if self.crosses(m) {
+            return Step {
+                pending: step_of(m).max(1),
+                over: 0,
+                under: 0,
+                ..self
+            };
+        }
+        let over = if self.is_over(m) { self.over + 1 } else { 0 };
+        let under = if self.is_under(m) { self.under + 1 } else { 0 };
         Step {
-            k: self.k,
-            pending,
+            pending: self.k,
             over,
             under,
+            ..self
         }
     }
 
     // The month's end.
+    #[tactic(auto, unfolding(crate::specs::Steps::settled_step))]
     pub fn settled(self) -> Step
         ensures { result ≡ settled_step self }
     {
         Step {
             k: self.pending,
-            pending: self.pending,
-            over: self.over,
-            under: self.under,
+            ..self
         }
     }
 
+    #[tactic(auto, unfolding(crate::specs::Steps::falls))]
     pub fn falls(self) -> bool
         ensures { result ≡ falls self }
     {

@@ -1,13 +1,14 @@
 // The terms in force, and the capacity that a step has under them.
-ghost use Rattle.std.specs.Prelude.{◌≡◌, true, ◌≤◌};
+ghost use Rattle.std.specs.Prelude.{◌≡◌, ◌≤◌};
 ghost use Rattle.tariff.specs.Terms.{terms_in_range, mddq_of, bcq_of, capacity_of};
 ghost use Rattle.tariff.specs.Bounds.{most_bcq, most_mdq};
 
 use crate::amounts::Dth;
 use crate::bounds::{MOST_DESIGN_DAY, MOST_NO_NOTICE, MOST_RATE, MOST_RETAINAGE};
+use crate::ranged::{InRange, Ranged};
 
 #[repr(C)]
-#[derive(Clone, Copy)]
+#[derive(Clone, Copy, PartialEq, Eq, Default, Debug)]
 pub struct Terms {
     // NN, the company's daily no-notice quantity.
     pub no_notice: Dth,
@@ -24,47 +25,55 @@ pub struct Terms {
 }
 
 #[repr(C)]
-#[derive(Clone, Copy)]
+#[derive(Clone, Copy, PartialEq, Eq, Default, Debug)]
 pub struct Capacity {
     pub mddq: Dth,
     pub bcq: Dth,
 }
 
-impl Terms {
-    pub fn in_range(self) -> bool
-        ensures { result ≡ terms_in_range self }
-    {
+impl Ranged for Terms {
+    ghost ranged = { terms_in_range };
+
+    #[tactic(auto, unfolding(crate::specs::Terms::terms_in_range))]
+    fn in_range(self) -> bool {
         let nn = self.no_notice.0;
         let dd = self.design_day.0;
         let s = self.storage.0;
-        if !((1 <= nn) & (nn <= MOST_NO_NOTICE)) {
-            return false;
-        }
-        let day = (nn <= dd) & (dd <= MOST_DESIGN_DAY);
-        let stored = (nn <= s) & (s <= 100 * nn);
-        let rates = (self.demand_rate <= MOST_RATE) & (self.commodity_rate <= MOST_RATE);
-        day & stored & (self.retainage <= MOST_RETAINAGE) & rates
+        // The last of them multiplies by what the first bounds.
+        (1..=MOST_NO_NOTICE).contains(&nn)
+            && (nn..=MOST_DESIGN_DAY).contains(&dd)
+            && (nn..=100 * nn).contains(&s)
+            && self.retainage <= MOST_RETAINAGE
+            && self.demand_rate <= MOST_RATE
+            && self.commodity_rate <= MOST_RATE
     }
+}
 
+impl InRange<Terms> {
+    #[tactic(auto, unfolding(crate::specs::Terms::mddq_of, crate::specs::Terms::terms_in_range), using(crate::proofs::Capacities::mddq_fits))]
     fn mddq(self, k: u64) -> Dth
-        requires { (terms_in_range self ≡ true) × (k ≤ 100) }
-        ensures value { result ≡ mddq_of self k }
+        requires { k ≤ 100 }
+        ensures value { result ≡ mddq_of self.value k }
         ensures bounded { result.0 ≤ most_mdq }
     {
-        Dth(3000 * k * self.no_notice.0 / self.design_day.0)
+        let t = self.get();
+        Dth(3000 * k * t.no_notice.0 / t.design_day.0)
     }
 
+    #[tactic(auto, unfolding(crate::specs::Terms::bcq_of, crate::specs::Terms::terms_in_range), using(crate::proofs::Capacities::bcq_fits))]
     fn bcq(self, mddq: Dth) -> Dth
-        requires { (terms_in_range self ≡ true) × (mddq.0 ≤ most_mdq) }
-        ensures value { result ≡ bcq_of self mddq }
+        requires { mddq.0 ≤ most_mdq }
+        ensures value { result ≡ bcq_of self.value mddq }
         ensures bounded { result.0 ≤ most_bcq }
     {
-        Dth(mddq.0 * self.storage.0 / self.no_notice.0)
+        let t = self.get();
+        Dth(mddq.0 * t.storage.0 / t.no_notice.0)
     }
 
+    #[tactic(auto, unfolding(crate::specs::Terms::capacity_of))]
     pub fn capacity(self, k: u64) -> Capacity
-        requires { (terms_in_range self ≡ true) × (k ≤ 100) }
-        ensures value { result ≡ capacity_of self k }
+        requires { k ≤ 100 }
+        ensures value { result ≡ capacity_of self.value k }
         ensures bounded { (result.mddq.0 ≤ most_mdq) × (result.bcq.0 ≤ most_bcq) }
     {
         let mddq = self.mddq(k);

@@ -3,12 +3,11 @@ use Prim.Native.Nat.{ℕ}
 use mathlib.Core.Path.{◌≡◌, refl, sym, ◌∙◌}
 use mathlib.Core.Bool.{Bool, true, false, cond, ◌&&◌}
 use mathlib.Core.List.{[]}
-use lib.Dec.{eqb, leb, ltb}
+use lib.Dec.{eqb, ltb}
 use borrow.Author.Tests.{eq-eqb, eqb-false, eqb-true, lt-leb, lt-ltb, ltb-true, ne_eqb, not-true}
 use Rattle.tariff.proofs.Bools.{parts}
 use Rattle.ledger.specs.Checks.{verdict}
 use Rattle.ledger.specs.Posting.{posted}
-use Rattle.ledger.proofs.Fields.{units_between}
 use Rattle.ledger.proofs.Transfers.{Transferable, accepted_if, accepted_only_if}
 use Rattle.partners.specs.EveryList.{is_in, listed, times}
 use Rattle.partners.specs.Listing.{answer, partner_checks, partners_below, partners_of}
@@ -51,9 +50,7 @@ module _ (l : Ledger) (s j q : ℕ) where
       }
 
   no_number : Transferable l s j q → number ≡ 0
-  no_number t =
-      let units : leb 1 q && leb q 1000000000 ≡ true = sym (units_between q) ∙ t.units in
-      cc (check_by_check l s q, lt-leb 16 s t.from)
+  no_number t = cc (check_by_check l s q, lt-leb 16 s t.from, t.units)
 
   transferable_listed : Transferable l s j q → eqb number 0 && (ltb j 16 && could_receive l s q j) ≡ true
   unfolding could_receive takes spares

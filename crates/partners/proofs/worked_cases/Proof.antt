@@ -14,7 +14,7 @@ use Rattle.ledger.specs.State.{no_totals, no_month, no_today, nobody, account_at
 use Rattle.ledger.specs.Ranges.{totals_in_range, step_in_range, account_in_range, every_account, in_range}
 use Rattle.ledger.specs.Answers.{quiet, plain, refused, settle}
 use Rattle.ledger.specs.Gas.{after_giving, after_taking, giving_checks, taking_checks, giving, taking}
-use Rattle.ledger.specs.Transfer.{giver, receiver, transfer_checks, post_transfer}
+use Rattle.ledger.specs.Transfer.{giver, receiver, handing_checks, transfer_checks, post_transfer}
 use Rattle.ledger.specs.Days.{wrong_day}
 use Rattle.ledger.specs.Posting.{standing_checks, admission, post_several, post_kind, post_entry, posted}
 use Rattle.partners.specs.Receivers.{takes, spares, could_receive}
@@ -26,7 +26,7 @@ use Rattle.partners.proofs.worked_cases.Statement.{statement}
 use Rattle.partners.proofs.worked_cases.Tie as tie
 
 all_cases : WorkedCases
-unfolding more less gap above below exceeds within percent within_mills gas_month minimum maximum same_month divides leap lengths month_length real same_date all_leave_one held_dates holidays_in_range stored_dates terms_in_range above_maximum below_minimum verdict lookup kind_of byte_at half_at word_at entry_of terms_of account_too_high unused_set some_units words_in_range wrong_transfer field_checks entry_checks no_totals no_month no_today nobody account_at held_in with_bank with_account totals_in_range step_in_range account_in_range every_account in_range quiet plain refused settle after_giving after_taking giving_checks taking_checks giving taking giver receiver transfer_checks post_transfer wrong_day standing_checks admission post_several post_kind post_entry posted takes spares could_receive headroom partner_of among_equals comes_before partner_at before placed partners_below partner_checks answer partners_of transfer_today could_send
+unfolding more less gap above below exceeds within percent within_mills gas_month minimum maximum same_month divides leap lengths month_length real same_date all_leave_one held_dates holidays_in_range stored_dates terms_in_range above_maximum below_minimum verdict lookup kind_of byte_at half_at word_at entry_of terms_of account_too_high unused_set some_units words_in_range wrong_transfer field_checks entry_checks no_totals no_month no_today nobody account_at held_in with_bank with_account totals_in_range step_in_range account_in_range every_account in_range quiet plain refused settle after_giving after_taking giving_checks taking_checks giving taking giver receiver transfer_checks handing_checks post_transfer wrong_day standing_checks admission post_several post_kind post_entry posted takes spares could_receive headroom partner_of among_equals comes_before partner_at before placed partners_below partner_checks answer partners_of transfer_today could_send
 all_cases =
     record {
       usual = (refl, refl);

@@ -1,54 +1,22 @@
--- A section fits behind the last one, as the whole list does, and once it is filled in the output holds the list up to its end.
-use native.Mathlib.Omega.{arith}
-use Prim.Native.Nat.{ℕ, ◌+◌, ◌-◌, ◌≤◌}
-use mathlib.Core.List.{List, ◌++◌}
-use mathlib.Core.Path.{◌≡◌, refl, ap, ◌∙◌}
-use lib.Seq.{paste, paste-zero, length-paste}
-use lib.ListN.{length, take, drop, length-drop}
-use Rattle.archive.proofs.Parts.{section_bytes, section_stored}
-use Rattle.archive.proofs.Splits.{FirstAt, first_at, rest_whole}
+-- Each section goes behind the ones before it, and at the end the output holds them all.
+use Rattle.std.proofs.Common.{arith, ap, length, refl, ◌∙◌}
+use lib.ListN.{length-drop}
+use Rattle.archive.proofs.Splits.{rest_whole}
+use Rattle.archive.proofs.Stores.{flattened, none_filled, all_filled, part_fits, section_put}
 use Rattle.archive.proofs.writing.put_sections.Goals as goal
-use Rattle.archive.proofs.writing.put_sections.Invariants.{Rest}
 
-at_first : (d s : List ℕ) (body : ℕ) → Rest d s d body (length s) 0
-at_first d s body = record { within = omega arith; all = refl; multiple = refl; copied = paste-zero d body s; long = refl }
+pub loop-section-init : goal.loop-section-init
+loop-section-init c = rw c.into_iter-section-iterator.ensures.into_iter_gives (none_filled _ _ _)
 
-module _ (d s x : List ℕ) (body n at : ℕ) (r : Rest d s x body n at) where
-  all_put : n ≤ at → x ≡ paste d body s (length s)
-  all_put h = let whole : at ≡ length s = omega (arith, r) in cc r.copied
+pub fill_section-requires : goal.fill_section-requires
+fill_section-requires c =
+    let size = ap length (c.as_flattened-bytes.ensures.value ∙ flattened c.in-Some.section.now) in
+    let fits = part_fits _ _ _ _ _ _ c.loop-section.invariant c.requires _ _ c.in-Some.ensures.steps in
+    rw (rest_whole c.loop-section.out c.loop-section.offset, length-drop) (omega (arith, size, fits))
 
-  -- one section more, where there is room for all
-  module _ (room : body + length s ≤ length d) (size : ℕ) (f : FirstAt s at size) where
-    section_fits : length (take (at + size - at) (drop at s)) ≤ length (take (length x - (body + at)) (drop (body + at) x))
-    section_fits = rw (section_bytes s at size f.within, rest_whole x (body + at), length-drop) (omega (arith, r))
+pub loop-section-preserved : goal.loop-section-preserved
+loop-section-preserved c =
+    section_put _ _ _ _ _ _ c.loop-section.invariant c.requires _ _ c.in-Some.ensures.steps _ _ _ (c.as_flattened-bytes.ensures.value ∙ flattened _) c.fill_section.ensures refl
 
-    section_put : (ys z : List ℕ) (next : ℕ) → next ≡ at + size
-        → ys ≡ take (at + size - at) (drop at s) ++ drop (length (take (at + size - at) (drop at s))) (take (length x - (body + at)) (drop (body + at) x))
-        → z ≡ take (body + at) x ++ (ys ++ drop (length x - (body + at)) (drop (body + at) x)) → Rest d s z body n next
-    section_put ys z next u h w =
-        let t = w ∙ section_stored d s x ys body at size r.copied (omega arith) f.within h in
-        rw u
-        (record {
-          within = omega (arith, r);
-          all = r.all;
-          multiple = omega (arith, r);
-          copied = t;
-          long = ap length t ∙ length-paste d body s (at + size) (omega arith) (omega arith);
-        })
-
-pub loop-at-init : goal.loop-at-init
-loop-at-init c = search at_first
-
-pub overflow_add-end : goal.overflow_add-end
-overflow_add-end c = let f : FirstAt c.args.list.now c.loop-at.at c.first_section-size.result = search (first_at, arith) in omega (arith, f)
-
-pub slice_bounds-fill_section-end-in-loop-at : goal.slice_bounds-fill_section-end-in-loop-at
-slice_bounds-fill_section-end-in-loop-at c = let f : FirstAt c.args.list.now c.loop-at.at c.first_section-size.result = search (first_at, arith) in omega (arith, f)
-
-pub loop-at-smaller : goal.loop-at-smaller
-loop-at-smaller c = let f : FirstAt c.args.list.now c.loop-at.at c.first_section-size.result = search (first_at, arith) in omega (arith, f)
-
-pub loop-at-preserved : goal.loop-at-preserved
-loop-at-preserved c =
-    let f : FirstAt c.args.list.now c.loop-at.at c.first_section-size.result = search (first_at, arith) in
-    section_put _ _ _ _ _ _ c.loop-at.invariant c.requires.1 c.first_section-size.result f _ _ _ refl c.fill_section.ensures refl
+pub returns : goal.returns
+returns c = all_filled _ _ _ _ _ _ c.loop-section.invariant c.in-None.ensures.steps.0

@@ -1,116 +1,92 @@
 -- An open account is closed, any other stays as it is; either way what was closed so far is one account more.
-use borrow.Author.Rules.{rules}
-use native.Mathlib.Omega.{arith}
-use mathlib.Core.Path.{◌∙◌, ◌≡◌, refl, sym}
-use mathlib.Core.Bool.{true}
-use Prim.Native.Nat.{ℕ, ◌<◌}
-use lib.ListN.{length, replicate}
-use Rattle.ledger.proofs.Admitted.{is_begun, is_ranged, is_real_lem, is_right}
+use Rattle.std.proofs.Common.{rules, ◌≡◌, ◌<◌, true, List, length, get_or, refl, ◌∙◌}
+use Prim.Native.Nat.{ℕ}
+use Rattle.ledger.proofs.Admissions.{is_begun, is_ranged}
 use Rattle.ledger.proofs.Bounded.{account_ranged, begun_ranged}
-use Rattle.ledger.proofs.Lists.{every_end, filled_end, length_mapped}
-use Rattle.ledger.proofs.RightEntries.{prices_fit}
-use Rattle.ledger.specs.Answers.{quiet}
-use Rattle.ledger.specs.Closing.{after_closing, report_of, stays_in_range}
-use Rattle.ledger.specs.Closings.{closed}
-use Rattle.ledger.specs.Ranges.{account_in_range}
-use Rattle.ledger.specs.State.{account_at, held_in, no_month, no_today, no_totals, nobody}
-use Rattle.tariff.specs.Terms.{terms_in_range}
+use Rattle.ledger.proofs.ClosedSoFar.{accounts_to, all_closed, goes_on, here, incomplete, lacking, leaves, next_stays, open_complete, open_reported, open_stored, shut_complete, shut_reported, shut_stays, shut_stored}
+use Rattle.ledger.proofs.Lists.{length_mapped}
 use Rattle.ledger.specs.Kinds.{TERMS}
 use Rattle.ledger.specs.Posting.{admission}
-use Rattle.ledger.specs.Structs.{Entry, Ledger}
-use Rattle.ledger.proofs.ClosedSoFar.{Ready, open_complete, open_reported, open_stored, open_stays, shut_complete, shut_reported, shut_stays, shut_stored}
+use Rattle.ledger.specs.Ranges.{account_in_range}
+use Rattle.ledger.specs.State.{held_in, no_month, no_today, no_totals, nobody}
+use Rattle.ledger.specs.Structs.{Account, Entry, Ledger}
+use Rattle.tariff.specs.Terms.{terms_in_range}
 use Rattle.ledger.proofs.closings.close_all.Goals as goal
-use Rattle.ledger.proofs.closings.close_all.Goals.{then-a, else-a}
+use Rattle.ledger.proofs.closings.close_all.Goals.{Start, In-loop-i, then-a+else-not-ready, then-not-in_range, else-not-in_range, else-a}
 
 -- what holds of an admitted closing
 module _ (l : Ledger) (e : Entry) (h : admission l e ≡ 0) where
   in_force : (e.kind ≡ TERMS → ⊥) → terms_in_range l.terms ≡ true
   in_force no_terms = (begun_ranged l (is_ranged l e h) (is_begun l e h no_terms)).1
 
-  ranged : length l.accounts ≡ 16 → (i : ℕ) → i < 16 → account_in_range (account_at l i) ≡ true
-  ranged n i j = account_ranged l i n j (is_ranged l e h)
+  ranged : length l.accounts ≡ 16 → (i : ℕ) → i < 16 → (xs : List Account) → xs ≡ accounts_to l e i → account_in_range (get_or xs i nobody) ≡ true
+  ranged n i j xs p = rw (here l e i n j xs p) (account_ranged l i n j (is_ranged l e h))
 
-pub last_of_month-ends-requires : goal.last_of_month-ends-requires
-last_of_month-ends-requires c = is_real_lem c.args.l c.args.e c.requires.0
-
-pub on_measurement_day-reads-requires : goal.on_measurement_day-reads-requires
-on_measurement_day-reads-requires c = is_real_lem c.args.l c.args.e c.requires.0
-
-pub day_after-tomorrow-requires : goal.day_after-tomorrow-requires
-day_after-tomorrow-requires c = is_real_lem c.args.l c.args.e c.requires.0
-
-pub still_held-kept-requires : goal.still_held-kept-requires
-still_held-kept-requires c = is_real_lem c.args.l c.args.e c.requires.0
+sixteen : (c : Start) → length c.args.l.now.accounts ≡ 16
+sixteen c = search (rules, length_mapped)
 
 pub loop-i-init : goal.loop-i-init
 unfolding held_in
 loop-i-init c =
     record {
-      stored = refl;
-      reported = rw c.quiet-quiet.ensures;
+      stored = c.requires.fresh.0;
+      reported = c.requires.fresh.1;
       complete = refl;
       fits = refl;
-      ends = c.last_of_month-ends.ensures;
-      reads = c.on_measurement_day-reads.ensures;
+      ends = rw c.date-date.ensures at c.last_of_month-ends.ensures;
+      reads = rw c.date-date.ensures at c.measured-reads.ensures;
     }
 
-pub close_account-one-requires-clause-admitted : goal.close_account-one-requires-clause-admitted
-unfolding nobody no_totals no_month no_today account_at
-close_account-one-requires-clause-admitted c =
-    let sixteen : length c.args.l.accounts ≡ 16 = search (rules, length_mapped) in (
-      is_real_lem c.args.l c.args.e c.requires.0,
-      ranged c.args.l c.args.e c.requires.0 sixteen c.loop-i.i c.loop-i-test.true,
-      in_force c.args.l c.args.e c.requires.0 c.requires.1,
-      prices_fit c.args.e (is_right c.args.l c.args.e c.requires.0),
-    )
+pub returns-then-not-ready : goal.returns-then-not-ready
+unfolding nobody no_totals no_month no_today
+returns-then-not-ready c =
+    let k = c.loop-i.invariant in
+    let n = sixteen (search) in
+    incomplete c.args.l.now c.args.e.entry (lacking c.args.l.now c.args.e.entry c.loop-i.i n c.loop-i-test.true _ (here c.args.l.now c.args.e.entry c.loop-i.i n c.loop-i-test.true c.loop-i.accounts k.stored) _ _ _ k.complete c.ready.ensures k.ends k.reads c.if-not-ready.true)
+
+pub of-terms-requires : goal.of-terms-requires
+of-terms-requires c = in_force c.args.l.now c.args.e.entry c.requires.admitted.0 c.requires.admitted.1
+
+pub of-requires : goal.of-requires
+unfolding nobody no_totals no_month no_today
+of-requires c = ranged c.args.l.now c.args.e.entry c.requires.admitted.0 (sixteen (search)) c.loop-i.i c.loop-i-test.true c.loop-i.accounts c.loop-i.invariant.stored
 
 pub loop-i-preserved : goal.loop-i-preserved
-unfolding nobody no_totals no_month no_today account_at
+unfolding nobody no_totals no_month no_today
 loop-i-preserved c =
-    let sixteen : length c.args.l.accounts ≡ 16 = search (rules, length_mapped) in
-    let below : c.loop-i.i < 16 = c.loop-i-test.true in
-    let so_far = c.loop-i.invariant in
-    let stays = ranged c.args.l c.args.e c.requires.0 sixteen c.loop-i.i below in
+    let n = sixteen (search) in
+    let l = c.args.l.now in
+    let e = c.args.e.entry in
+    let i = c.loop-i.i in
+    let below : i < 16 = c.loop-i-test.true in
+    let k = c.loop-i.invariant in
+    let at = here l e i n below c.loop-i.accounts k.stored in
     elim c.if-a.branch [
-      | then-a w ↦ record {
-        stored = open_stored c.args.l c.args.e c.loop-i.i sixteen below c.loop-i.next _ _ w.next-is so_far.stored w.close_account-one.ensures;
-        reported = open_reported c.args.l c.args.e c.loop-i.i sixteen below c.loop-i.reports _ _ w.reports-is so_far.reported w.close_account-one.ensures;
-        complete = open_complete c.args.l c.args.e c.loop-i.i sixteen below c.loop-i.complete _ _ _ _ so_far.complete w.ready-had.ensures so_far.ends so_far.reads w.complete-is;
-        fits = open_stays c.args.l c.args.e c.loop-i.i sixteen below c.loop-i.fits _ _ _ _ w.fits-is so_far.fits w.account_in_range.ensures w.account_in_range-then-a.ensures w.close_account-one.ensures;
-        ends = so_far.ends;
-        reads = so_far.reads;
+      | then-a+else-not-ready w ↦ record {
+        stored = open_stored l e i n below _ at c.loop-i.accounts _ _ w.accounts-is k.stored (rw (c.of-terms.ensures, w.of.ensures) at w.close_account-one.ensures);
+        reported = open_reported l e i n below _ at c.loop-i.reports _ _ w.reports-is k.reported (rw (c.of-terms.ensures, w.of.ensures) at w.close_account-one.ensures);
+        complete = open_complete l e i n below _ at _ _ _ k.complete w.ready.ensures k.ends k.reads w.if-not-ready.false;
+        fits =
+            let next = next_stays l e i n below _ at _ _ _ w.in_range.ensures w.in_range-then-a.ensures (rw (c.of-terms.ensures, w.of.ensures) at w.close_account-one.ensures) in
+            elim w.if-not-in_range.branch [
+              | then-not-in_range w' ↦ leaves l e i _ next c.loop-i.stays _ (w.stays-is ∙ w'.stays-is) k.fits w'.if-not-in_range.true
+              | else-not-in_range w' ↦ goes_on l e i _ next c.loop-i.stays _ (w.stays-is ∙ w'.stays-is) k.fits w'.if-not-in_range.false
+            ];
+        ends = k.ends;
+        reads = k.reads;
       }
       | else-a w ↦ record {
-        stored = shut_stored c.args.l c.args.e c.loop-i.i sixteen below w.if-a.false c.loop-i.next _ so_far.stored w.next-is;
-        reported = shut_reported c.args.l c.args.e c.loop-i.i sixteen below w.if-a.false c.loop-i.reports _ so_far.reported w.reports-is;
-        complete = shut_complete c.args.l c.args.e c.loop-i.i sixteen below w.if-a.false c.loop-i.complete _ so_far.complete w.complete-is;
-        fits = shut_stays c.args.l c.args.e c.loop-i.i sixteen below w.if-a.false c.loop-i.fits _ stays so_far.fits w.fits-is;
-        ends = so_far.ends;
-        reads = so_far.reads;
+        stored = shut_stored l e i n below _ at w.if-a.false c.loop-i.accounts _ k.stored w.accounts-is;
+        reported = shut_reported l e i n below _ at w.if-a.false c.loop-i.reports _ k.reported w.reports-is;
+        complete = shut_complete l e i n below _ at w.if-a.false k.complete;
+        fits = rw w.stays-is (shut_stays l e i n below _ at w.if-a.false c.loop-i.stays (ranged l e c.requires.admitted.0 n i below c.loop-i.accounts k.stored) k.fits);
+        ends = k.ends;
+        reads = k.reads;
       }
     ]
 
-pub returns-clause-closed : goal.returns-clause-closed
-unfolding closed
-returns-clause-closed c =
-    let sixteen : length c.args.l.accounts ≡ 16 = search (rules, length_mapped) in
-    let l = c.args.l in
-    let e = c.args.e in (
-      rw (
-        c.loop-i.invariant.stored,
-        c.still_held-kept.ensures,
-        c.day_after-tomorrow.ensures,
-        filled_end (after_closing l.is_new l.terms e) l.accounts l.accounts c.loop-i.i (omega (arith, sixteen)) (omega (arith, sixteen)),
-      ),
-      c.loop-i.invariant.reported ∙ filled_end (report_of l.is_new l.terms e) l.accounts (replicate 16 quiet) c.loop-i.i (omega (arith, sixteen)) (omega arith),
-    )
-
-pub returns-clause-complete : goal.returns-clause-complete
-returns-clause-complete c =
-    let sixteen : length c.args.l.accounts ≡ 16 = search (rules, length_mapped) in
-    sym (every_end (Ready c.args.l c.args.e) c.args.l.accounts c.loop-i.i c.loop-i.complete (omega (arith, sixteen))) ∙ c.loop-i.invariant.complete
-
-pub returns-clause-fits : goal.returns-clause-fits
-returns-clause-fits c =
-    let sixteen : length c.args.l.accounts ≡ 16 = search (rules, length_mapped) in
-    sym (every_end (stays_in_range c.args.l.is_new c.args.l.terms c.args.e) c.args.l.accounts c.loop-i.i c.loop-i.fits (omega (arith, sixteen))) ∙ c.loop-i.invariant.fits
+pub returns : goal.returns
+returns c =
+    let n = sixteen (search) in
+    let k = c.loop-i.invariant in
+    all_closed c.args.l.now c.args.e.entry c.loop-i.i n c.loop-i-test.false c.loop-i.accounts k.stored c.loop-i.reports k.reported k.complete c.loop-i.stays k.fits

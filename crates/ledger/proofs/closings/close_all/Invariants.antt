@@ -1,7 +1,7 @@
 -- One account after the other: what was closed so far and the accounts still to come together say what the rule says.
 use mathlib.Core.Path.{◌≡◌}
-use Rattle.ledger.proofs.ClosedSoFar.{Agrees, Ready, accounts_to, reports_to}
-use Rattle.ledger.specs.Closing.{stays_in_range}
+use mathlib.Core.Bool.{true}
+use Rattle.ledger.proofs.ClosedSoFar.{Agrees, Ready, Stays, accounts_to, reports_to}
 use Rattle.ledger.specs.State.{held_in}
 use Rattle.tariff.specs.Dates.{last_of_month}
 use Rattle.tariff.specs.Holidays.{on_measurement_day}
@@ -10,10 +10,10 @@ use Rattle.ledger.proofs.closings.close_all.Given as goal
 abbrev pub invariant-loop-i : goal.invariant-loop-i
 invariant-loop-i l =
     record {
-      stored : l.next ≡ accounts_to l.l l.e l.i;
-      reported : l.reports ≡ reports_to l.l l.e l.i;
-      complete : Agrees l.l l.i (Ready l.l l.e) l.complete;
-      fits : Agrees l.l l.i (stays_in_range l.l.is_new l.l.terms l.e) l.fits;
-      ends : l.ends ≡ last_of_month l.e.date;
-      reads : l.reads ≡ on_measurement_day (held_in l.l) l.e.date;
+      stored : l.accounts ≡ accounts_to l.l l.e.entry l.i;
+      reported : l.reports ≡ reports_to l.l l.e.entry l.i;
+      complete : Agrees l.l l.i (Ready l.l l.e.entry) true;
+      fits : Stays l.l l.e.entry l.i l.stays;
+      ends : l.ends ≡ last_of_month l.e.entry.date;
+      reads : l.reads ≡ on_measurement_day (held_in l.l) l.e.entry.date;
     }

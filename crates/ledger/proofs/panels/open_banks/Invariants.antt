@@ -7,9 +7,9 @@ use Rattle.ledger.specs.Panel.{open_banks}
 use Rattle.tariff.specs.Amounts.{size}
 use Rattle.ledger.proofs.panels.open_banks.Given as goal
 
-abbrev pub invariant-loop-i : goal.invariant-loop-i
-invariant-loop-i l =
+abbrev pub invariant-loop-a : goal.invariant-loop-a
+invariant-loop-a l =
     record {
-      whole : l.figure.0 +ℤ open_banks (drop l.i l.l.accounts) ≡ open_banks l.l.accounts;
-      small : size l.figure ≤ 100000000000 * l.i;
+      whole : l.figure.0 +ℤ open_banks (drop l.a-index l.ledger.accounts) ≡ open_banks l.ledger.accounts;
+      small : size l.figure ≤ 100000000000 * l.a-index;
     }
