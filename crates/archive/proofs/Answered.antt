@@ -1,12 +1,18 @@
--- What C is answered is one for each answer of the reader and the writer.
-use mathlib.Core.Path.{◌≡◌, refl, sym, ◌∙◌}
+-- What C is answered is one for each answer of the reader and the writer. Three lemmas, as a search finds each by its own relation, so the door needs no answers.
+use mathlib.Core.Path.{◌≡◌, refl, sym, ap, ◌∙◌}
 use Prim.Native.Nat.{ℕ}
 use Rattle.std.specs.Prelude.{⊤, Result, Ok, Err}
+use Rattle.std.specs.Result.{IsErrAnd}
+use Rattle.std.proofs.lemmas.Result.{err_from_is_err_and}
 use Rattle.archive.specs.Structs.{Checked, Place, Written}
 use Rattle.archive.specs.declared.answers.Span.{Span}
 use Rattle.archive.specs.declared.faults.Trouble.{Trouble}
 use Rattle.archive.specs.declared.faults.Fault.TheVariants as fault
 use Rattle.archive.specs.Faults.{fault_number, Tells, Lies, Holds}
+
+-- the answer by which a `?` hands a fault on
+pub handed_on : {T E : Type 0} (r : Result T E) (e : E) → IsErrAnd r (λ y. y ≡ e) → r ≡ Err e
+handed_on r e h = let p = err_from_is_err_and r h in p.1 ∙ ap Err p.2
 
 pub told_once : (r : Result ⊤ Trouble) (c d : Checked) → Tells r c → Tells r d → c ≡ d
 told_once (Ok x) c d p q = p ∙ sym q

@@ -4,10 +4,14 @@ use native.Mathlib.Nat.{add-sub_cancel_left}
 use Prim.Native.Nat.{ℕ, ◌+◌, ◌-◌, ◌<◌, ◌≤◌}
 use mathlib.Core.Path.{◌≡◌, ap}
 use mathlib.Core.List.{List, []}
-use lib.ListN.{take, drop}
+use lib.ListN.{length, take, drop}
+use Rattle.std.specs.Prelude.{Option, None, Some, MatchOption}
+use Rattle.std.specs.Option.{ok_or}
 use Rattle.archive.specs.Structs.{Place}
 use Rattle.archive.specs.Entries.{first_entries, entries_of, finding}
-use Rattle.archive.specs.Faults.{fault_number}
+use Rattle.archive.specs.Faults.{fault_number, Lies}
+use Rattle.archive.specs.declared.faults.Fault.TheVariants as fault
+use Rattle.archive.specs.declared.answers.Span.{Span}
 use Rattle.archive.specs.declared.faults.Fault.{Fault}
 use Rattle.archive.specs.Reading.{section_count, checked, pair_at, nowhere, place_of, section_at, list_of}
 use Rattle.archive.specs.Replay.{list_in, entries_in}
@@ -35,6 +39,13 @@ module _ (a : List ℕ) where
     pub accepted_list : entries_of (list_of a) ≡ entries_in a
     unfolding entries_in list_in finding
     accepted_list = rw e
+
+    -- pair i of the directory, or why there is none
+    pub asked : (i : ℕ) (o : Option Span) → MatchOption o (section_count a ≤ i) (λ s. (i < section_count a) × (s.start ≡ (pair_at a i).0) × (s.length ≡ (pair_at a i).1) × (s.start + s.length ≤ length a))
+        → Lies (ok_or o (record { fault = fault.NoSuchSection; index = 0 })) (place_of a i)
+    unfolding fault_number
+    asked i None h = none_such i h
+    asked i (Some s) h = found i s.start s.length h.0 h.1 h.2
 
   -- the part between a place's start and its end
   pub part_lent : (i s l : ℕ) → place_of a i ≡ record { number = 0; index = 0; start = s; length = l }

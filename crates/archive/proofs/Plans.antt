@@ -129,7 +129,3 @@ module _ (new : Bool) (list d : List ℕ) (es : List (List ℕ)) (count : ℕ) (
 pub untouched : (new : Bool) (list out : List ℕ) (f : Fault) (i : ℕ) → written new list (length out) ≡ unwritten (fault_number f) i → out ≡ output_after new list out
 unfolding output_after unwritten
 untouched new list out f i e = rw (e, fault_refuses f)
-
-pub put : (new : Bool) (list out after : List ℕ) (n : ℕ) → written new list (length out) ≡ record { number = 0; index = 0; length = n } → after ≡ archive_of new list ++ drop (length (archive_of new list)) out → after ≡ output_after new list out
-unfolding output_after
-put new list out after n e h = rw e h

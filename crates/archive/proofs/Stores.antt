@@ -60,9 +60,6 @@ module _ (d : List ℕ) (es : List (List ℕ)) (x : List ℕ) (ss : List (List �
     pub first_fits : (at + 4 ≤ length x) × (offset < 4294967296)
     first_fits = (omega (arith, r, one_less), omega (arith, r, bytes_less))
 
-    pub sizes : (size : ℕ) → size ≡ length s → offset + size ≤ 4294967295
-    sizes size u = omega (arith, r, bytes_less)
-
     module _ (y : List ℕ) (hy : y ≡ paste x at (bytes_of 4 offset) 4) (size : ℕ) (u : size ≡ length s) where
       same_length : length y ≡ length x
       same_length = ap length hy ∙ length-paste x at (bytes_of 4 offset) 4 (first_fits.0) (omega (arith, length_bytes 4 offset))

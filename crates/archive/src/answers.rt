@@ -41,12 +41,12 @@ pub struct Span {
     pub length: usize,
 }
 
-impl Span {
-    // A pair of the directory.
+// A pair of the directory.
+impl From<&[u8; 8]> for Span {
+    ghost from_gives = { λ p s. (s.start ≡ (pair_in p.now).0) × (s.length ≡ (pair_in p.now).1) × (s.start < 4294967296) × (s.length < 4294967296) };
+
     #[tactic(auto, unfolding(crate::specs::Reading::pair_in))]
-    pub fn of(pair: &[u8; 8]) -> Span
-        ensures { (result.start ≡ (pair_in pair.now).0) × (result.length ≡ (pair_in pair.now).1) × (result.start < 4294967296) × (result.length < 4294967296) }
-    {
+    fn from(pair: &[u8; 8]) -> Span {
         Span {
             start: word(pair, 0),
             length: word(pair, 4),
@@ -54,6 +54,7 @@ impl Span {
     }
 }
 
+// Three, as C's structs differ in what stands beside number and index.
 impl From<Result<(), Trouble>> for Checked {
     ghost from_gives = { λ r c. Tells r c };
 

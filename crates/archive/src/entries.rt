@@ -11,6 +11,7 @@ use crate::faults::{Fault, Trouble};
 const CLOSE_MONTH: u8 = 9;
 
 // Whether an entry closes a month, and so ends its section.
+#[tactic(auto, unfolding(crate::specs::Entries::closes_month), using(ledger::proofs::Fields::kind_byte))]
 pub fn closes_month(entry: &[u8; 32]) -> bool
     ensures { result ≡ closes_month entry.now }
 {
@@ -18,6 +19,7 @@ pub fn closes_month(entry: &[u8; 32]) -> bool
 }
 
 // The entries of some bytes, as far as they are whole.
+#[tactic(auto, unfolding(crate::specs::Entries::entries_of), using(crate::proofs::EntryLists::chunks_entries))]
 pub fn entries_of(bytes: &[u8]) -> &[[u8; 32]]
     ensures { result.now ≡ entries_of bytes.now }
 {
@@ -59,8 +61,9 @@ pub struct ByItself {
 impl Asks for ByItself {
     ghost number = { λ a ends e. form_number a.is_new e };
 
+    #[tactic(auto, unfolding(crate::specs::Faults::fault_number))]
     fn ask(self, entry: &[u8; 32], _: bool) -> Result<(), Fault> {
-        Ok(ledger::check_entry(self.is_new, entry)?)
+        ledger::check_entry(self.is_new, entry).map_err(Fault::from)
     }
 }
 

@@ -49,7 +49,7 @@ impl From<Refusal> for Fault {
 #[derive(Clone, Copy, PartialEq, Eq, Debug)]
 pub struct Trouble {
     pub fault: Fault,
-    // Of the entry at fault, counted over the whole list or file; 0 where it is none.
+    // Of the entry at fault, counted over the whole list or file; 0 where it is none, and no Option, as `finding` has it and C gets it.
     pub index: usize,
 }
 

@@ -12,8 +12,9 @@ mod sheet;
 mod words;
 mod writing;
 
-ghost use Rattle.std.specs.Prelude.{◌≡◌, ◌+◌, ◌≤◌, length, IfOk, MatchResult};
+ghost use Rattle.std.specs.Prelude.{◌≡◌, ◌+◌, ◌%◌, ◌≤◌, Err, length, IfOk, MatchResult};
 ghost use Rattle.archive.specs.Faults.{Tells, Lies, Holds, Lent};
+ghost use Rattle.archive.specs.declared.faults.Fault.TheVariants.{InPieces};
 ghost use Rattle.archive.specs.Writing.{written, output_after};
 ghost use Rattle.archive.specs.Reading.{is_new, checked, place_of};
 ghost use Rattle.archive.specs.Replay.{entries_in, replayed, figures_of, BanksAddUp, FigureAddsUp, DebtsAddUp, DaysAddUp, StrikingChangesNothing};
@@ -34,10 +35,12 @@ pub use answers::{Checked, Place, Span, Written};
 pub use faults::{Fault, Trouble};
 pub use replaying::{Figures, Replay};
 
-// The archive of a list of entries, old or new, at the start of the output; how long it is.
+// The archive of a list of entries, old or new, at the start of the output; how long it is. The three are C's, handed through.
+#[tactic(auto, unfolding(crate::specs::Writing::output_after), using(crate::proofs::Plans::untouched))]
 pub fn write(is_new: bool, list: &[u8], out: &mut [u8]) -> Result<usize, Trouble>
     ensures answer { Holds result (written is_new list.now (length out.old)) }
     ensures output { out.new ≡ output_after is_new list.now out.old }
+    ensures pieces { (length list.now % 32 ≡ 0 → ⊥) → result ≡ Err (record { fault = InPieces; index = 0 }) }
 {
     let length = plan(is_new, list, out.len())?;
     put_archive(is_new, out, list);
@@ -66,13 +69,11 @@ pub fn place(archive: &[u8], i: usize) -> Result<Span, Trouble>
     ensures within { IfOk result (λ s. s.start + s.length ≤ length archive.now) }
 {
     let accepted = Archive::accepted(archive)?;
-    match accepted.span(i) {
-        Some(span) => Ok(span),
-        None => Err(Trouble::from(Fault::NoSuchSection)),
-    }
+    accepted.span(i).ok_or(Trouble::from(Fault::NoSuchSection))
 }
 
 // Section i, as that part of the archive.
+#[tactic(auto, using(crate::proofs::Places::part_lent))]
 pub fn section(archive: &[u8], i: usize) -> Result<&[u8], Trouble>
     ensures { Lent result archive.now i }
 {
@@ -81,7 +82,7 @@ pub fn section(archive: &[u8], i: usize) -> Result<&[u8], Trouble>
     Ok(&archive[span.start..end])
 }
 
-// What is found of an archive, and its entries: none where it is refused.
+// What is found of an archive, and its entries: none where it is refused. No Result, as a refused one is replayed too, as no entries.
 fn read(archive: &[u8]) -> (Checked, &[[u8; 32]])
     ensures { (result.0 ≡ checked archive.now) × (result.1.now ≡ entries_in archive.now) }
 {
@@ -116,6 +117,7 @@ pub fn figures(archive: &[u8]) -> Figures
 }
 
 // The banks of the gas year that begins in April of a year, accounts by months.
+#[tactic(auto, using(crate::proofs::Columns::sheet_is))]
 pub fn year_sheet(archive: &[u8], year: u64) -> [[Units; 12]; 16]
     ensures { result ≡ sheet_of archive.now year }
 {

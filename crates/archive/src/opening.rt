@@ -7,10 +7,11 @@ ghost use Rattle.archive.specs.Reading.{opens_as};
 pub fn opening(is_new: bool) -> [u8; 4]
     ensures { result ≡ opening_bytes is_new }
 {
-    [69, 70, 66, if is_new { 50 } else { 49 }]
+    [b'E', b'F', b'B', if is_new { b'2' } else { b'1' }]
 }
 
 // Whether the first four bytes are those of an old archive, or of a new one.
+#[tactic(auto, using(crate::proofs::Openings::opens))]
 pub fn opens_as(is_new: bool, archive: &[u8]) -> bool
     ensures { result ≡ opens_as is_new archive.now }
 {

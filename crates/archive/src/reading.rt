@@ -21,6 +21,7 @@ fn section_count(bytes: &[u8]) -> usize
 }
 
 // Number 8.
+#[tactic(auto, unfolding(crate::specs::Reading::wrong_header, crate::specs::Reading::right_opening, crate::specs::Layout::body_at))]
 fn wrong_header(bytes: &[u8]) -> bool
     ensures { result ≡ wrong_header bytes.now }
 {
@@ -38,6 +39,7 @@ fn wrong_header(bytes: &[u8]) -> bool
 }
 
 // The directory, a pair for each section. It is asked before there is an Archive, so the right header is required of the bytes.
+#[tactic(auto, using(crate::proofs::Headers::measured, crate::proofs::Pairs::pairs_cut))]
 fn pairs(bytes: &[u8]) -> &[[u8; 8]]
     requires { wrong_header bytes.now ≡ false }
     ensures pairs { map pair_in result.now ≡ pairs_of bytes.now }
@@ -49,13 +51,14 @@ fn pairs(bytes: &[u8]) -> &[[u8; 8]]
 }
 
 // What number 9 is about.
+#[tactic(auto, using(crate::proofs::Headers::measured))]
 fn right_directory(bytes: &[u8]) -> bool
     requires { wrong_header bytes.now ≡ false }
     ensures { result ≡ right_directory bytes.now }
 {
     let mut end = 8 + 8 * section_count(bytes);
     for pair in pairs(bytes) {
-        let span = Span::of(pair);
+        let span = Span::from(pair);
         let whole = (0 < span.length) & (span.length % 32 == 0);
         if !((span.start == end) & whole) {
             return false;
@@ -75,6 +78,7 @@ pub struct Archive<'a> {
 
 impl<'a> Archive<'a> {
     // Numbers 8 and 9.
+    #[tactic(auto, unfolding(crate::specs::Reading::checked, crate::specs::Entries::finding, crate::specs::Faults::fault_number))]
     fn open(bytes: &'a [u8]) -> Result<Archive<'a>, Trouble>
         ensures { MatchResult result (λ a. a.bytes.now ≡ bytes.now) (λ t. checked bytes.now ≡ finding (fault_number t.fault) t.index) }
     {
@@ -103,7 +107,7 @@ impl<'a> Archive<'a> {
         let is_new = opens_as(true, self.bytes);
         let mut first = 0;
         for pair in pairs(self.bytes) {
-            let span = Span::of(pair);
+            let span = Span::from(pair);
             let end = span.start + span.length;
             let section = entries_of(&self.bytes[span.start..end]);
             // The directory ends with the file, and no section is empty.
@@ -119,10 +123,11 @@ impl<'a> Archive<'a> {
         ensures { MatchOption result (section_count self.entry.bytes.now ≤ i) (λ s. (i < section_count self.entry.bytes.now) × (s.start ≡ (pair_at self.entry.bytes.now i).0) × (s.length ≡ (pair_at self.entry.bytes.now i).1) × (s.start + s.length ≤ length self.entry.bytes.now)) }
     {
         let pair = pairs(self.bytes).get(i)?;
-        Some(Span::of(pair))
+        Some(Span::from(pair))
     }
 
     // All that follows the directory.
+    #[tactic(auto, using(crate::proofs::Headers::measured))]
     pub fn entries(self) -> &'a [[u8; 32]]
         ensures { result.now ≡ entries_of (list_of self.entry.bytes.now) }
     {

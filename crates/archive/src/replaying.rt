@@ -8,7 +8,7 @@ use crate::answers::Checked;
 use ledger::Ledger;
 use tariff::amounts::Units;
 
-// A refused archive is replayed too, as no entries, so this is no Result.
+// A refused archive is replayed too, as no entries, so this is no Result. Two are compared nowhere; the code for it would lie in the image.
 #[derive(Clone, Copy)]
 pub struct Replay {
     // Of the archive; with a refusal the counts are 0 and the ledger is fresh.
@@ -19,7 +19,7 @@ pub struct Replay {
     pub ledger: Ledger,
 }
 
-// What the panel program prints.
+// What the panel program prints. As C reads it, with number and index of `Checked`.
 #[repr(C)]
 #[derive(Clone, Copy, PartialEq, Eq, Debug)]
 pub struct Figures {

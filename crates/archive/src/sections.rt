@@ -28,6 +28,7 @@ impl<'a> Iterator for Sections<'a> {
     }
 }
 
+#[tactic(auto, using(crate::proofs::Splits::few_sections))]
 pub fn count_sections(entries: &[[u8; 32]]) -> usize
     ensures { result ≡ length (sections_of entries.now) }
 {

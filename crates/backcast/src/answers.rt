@@ -25,7 +25,8 @@ impl From<NoBackCast> for u64 {
     }
 }
 
-// The number, and the back-cast in units; a refusal has none. C has no Result, so the number lies beside the quantity.
+// The number, and the back-cast in units; a refusal has none. C has no Result, so the number lies beside the quantity. The struct comes from the
+// Result by From, at the one spot below.
 #[repr(C)]
 #[derive(Clone, Copy, PartialEq, Eq, Debug)]
 pub struct BackCast {

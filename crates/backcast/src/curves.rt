@@ -9,7 +9,7 @@ use tariff::amounts::Quantity;
 
 // Units of gas at the turning temperature and above it, units more for each degree below, and that temperature.
 #[repr(C)]
-#[derive(Clone, Copy)]
+#[derive(Clone, Copy, PartialEq, Debug)]
 pub struct LoadCurve {
     pub base: f64,
     pub slope: f64,

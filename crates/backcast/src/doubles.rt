@@ -4,6 +4,7 @@ ghost use Rattle.backcast.specs.Doubles.{is_number};
 ghost use Rattle.backcast.specs.Answers.{is_quantity, whole_part};
 
 // Neither an infinity nor not-a-number.
+#[tactic(auto, using(crate::proofs::Values::finite))]
 pub fn is_number(x: f64) -> bool
     ensures { result ≡ is_number x }
 {

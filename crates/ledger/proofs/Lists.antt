@@ -7,6 +7,7 @@ use native.Mathlib.Numerals.{add-one}
 use native.Mathlib.Omega.{arith}
 use lib.ListN.{length, drop, take, get_or, set, drop_of_length-le}
 use lib.Seq.{drop-cons, take_all}
+-- that a lent ledger has sixteen accounts stands in the context of a function, under names that are Rattle's own, and not in the ledger: so each proof searches for it with this
 pub use Rattle.tariff.proofs.Arrays.{length_mapped}
 use Rattle.std.specs.List.{list_all}
 use Rattle.std.proofs.lemmas.List.Recursion.{and_at, and_set, same_from_clauses}

@@ -3,10 +3,16 @@ use Rattle.std.specs.Prelude.{◌≡◌, ℕ, List, length, Result, MatchResult}
 use Rattle.ledger.specs.Structs.{Entry, Ledger}
 use Rattle.ledger.specs.Answers.{refused}
 use Rattle.ledger.specs.Entries.{entry_of}
+use Rattle.ledger.specs.Kinds.{code}
+use Rattle.ledger.specs.declared.kinds.Kind.{Kind}
 use Rattle.ledger.specs.Posting.{admission, posted}
 use Rattle.ledger.specs.Refusals.{number}
 use Rattle.ledger.specs.declared.admitted.Admitted.{Admitted}
 use Rattle.ledger.specs.declared.refusals.Refusal.{Refusal}
+
+-- R15: the kind of an entry whose number is 0, else the refusal that has it.
+abbrev pub Finds : Result Kind Refusal → Entry → ℕ → Type 0
+Finds r e n = MatchResult r (λ k. (n ≡ 0) × (e.kind ≡ code k)) (λ f. n ≡ number f)
 
 -- R15 and R22: the entry where its number is 0, else the refusal that has it.
 abbrev pub Admits : Result Admitted Refusal → Entry → ℕ → Type 0

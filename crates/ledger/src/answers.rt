@@ -11,7 +11,7 @@ use tariff::amounts::{Mills, Quantity, Units};
 #[repr(C)]
 #[derive(Clone, Copy, PartialEq, Eq, Default, Debug)]
 pub struct Report {
-    // V1 is 1, V2 is 2, up to V8 128.
+    // V1 is 1, V2 is 2, up to V8 128: bits, as C reads them.
     pub mask: u64,
     // In positive, out negative.
     pub cash: Units,
@@ -24,6 +24,7 @@ pub struct Report {
 pub struct Answer {
     // 0 is acceptance. A number, and no Option of a Refusal, as C reads it.
     pub number: u64,
+    // Sixteen, as the accounts are: C's, and no heap.
     pub reports: [Report; 16],
 }
 
@@ -35,6 +36,7 @@ impl Answer {
     }
 }
 
+// Compared and printed nowhere, as the ledger in it.
 #[repr(C)]
 #[derive(Clone, Copy)]
 pub struct Posted {
@@ -42,7 +44,7 @@ pub struct Posted {
     pub ledger: Ledger,
 }
 
-// A refusal, or the acceptance of what no closing is.
+// A refusal, or the acceptance of what no closing is. Panel has the same arms and its own impl, as C's structs differ in what stands beside the number.
 impl From<Result<(), Refusal>> for Answer {
     ghost from_gives = { λ r a. a ≡ plain (number_of r) };
 

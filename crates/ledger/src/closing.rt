@@ -39,35 +39,12 @@ struct AfterDay {
     ghost step: { account.step.pending ≤ 100 },
 }
 
-#[tactic(auto, using(crate::proofs::Bounded::bounds), unfolding(crate::specs::Closing::violations_of, crate::specs::Closing::limit_of))]
-fn violations(d: InRange<Date>, a: InRange<Account>) -> u64
-    ensures { result ≡ violations_of d.value a.value }
-{
-    let date = d.get();
-    let a = a.get();
-    let limits = Limits::of(date.month, a.capacity.bcq);
-    let limit = limits.withdrawal_limit(a.carry);
-    let net = a.month.totals.net;
-    let found = Violations {
-        v1: a.today.v1,
-        v2: a.today.v2,
-        v3: limits.breaks_v3(net),
-        v4: breaks_v4(date.month, limit, net),
-        v5: limits.breaks_v5(d, net),
-        v6: limits.breaks_v6(date, a.bank),
-        v7: breaks_v7(a.bank),
-        v8: limits.breaks_v8(a.excused, a.bank),
-    };
-    found.mask()
-}
-
-#[tactic(auto, using(crate::proofs::Bounded::bounds), unfolding(crate::specs::Closing::cash_at))]
-fn cash_at(d: Date, a: InRange<Account>) -> Units
-    ensures value { result ≡ cash_at d a.value }
-    ensures bounded { size result ≤ 103060000000 }
-{
-    let a = a.get();
-    Limits::of(d.month, a.capacity.bcq).cash(a.excused, a.bank)
+// An open account on the day that closes it.
+#[derive(Clone, Copy)]
+struct Closing {
+    date: InRange<Date>,
+    account: InRange<Account>,
+    ghost open: { account.value.opened ≡ true },
 }
 
 #[tactic(auto, using(tariff::proofs::Laws::together_value), unfolding(crate::specs::Closing::with_cash))]
@@ -83,62 +60,12 @@ fn with_cash(m: Totals, cash: Units) -> Totals
     }
 }
 
-// Whether the excuse goes on, with the bank after cash.
-#[tactic(auto, using(crate::proofs::Bounded::bounds), unfolding(crate::specs::Closing::excused_still))]
-fn excused_still(d: Date, a: InRange<Account>, bank: Units) -> bool
-    ensures { result ≡ excused_still d a.value bank }
-{
-    let a = a.get();
-    a.excused & !Limits::of(d.month, a.capacity.bcq).ends_excuse(bank)
-}
-
 // One more violation day where anything was broken.
 fn days(so_far: u64, mask: u64) -> u64
     requires { so_far ≤ most_days }
     ensures { result ≡ so_far + cond (eqb mask 0) 0 1 }
 {
     so_far + u64::from(mask != 0)
-}
-
-#[tactic(auto, using(crate::proofs::Bounded::bounds, crate::proofs::Bounded::pending_fits), unfolding(crate::specs::Closing::day_end, crate::specs::Closing::with_cash, crate::specs::State::with_bank, crate::specs::State::with_totals, crate::specs::State::with_month, crate::specs::State::with_excuse, crate::specs::State::with_days, crate::specs::State::with_today, crate::specs::State::no_today))]
-fn day_end(d: Date, mask: u64, cash: Units, account: InRange<Account>) -> AfterDay
-    requires { (account.value.opened ≡ true) × (size cash ≤ 103060000000) }
-    ensures { result.account ≡ day_end d mask cash account.value }
-{
-    let a = account.get();
-    let bank = a.bank + cash;
-    let totals = with_cash(a.month.totals, cash);
-    let excused = excused_still(d, account, bank);
-    AfterDay {
-        account: Account {
-            bank,
-            month: ThisMonth { totals, ..a.month },
-            excused,
-            violation_days: days(a.violation_days, mask),
-            today: Today::default(),
-            ..a
-        },
-    }
-}
-
-#[tactic(auto, unfolding(crate::specs::Closing::day_closing, crate::specs::Closing::after_day))]
-fn close_day(d: InRange<Date>, a: InRange<Account>) -> Closed
-    requires { a.value.opened ≡ true }
-    ensures { result ≡ day_closing d.value a.value }
-{
-    let mask = violations(d, a);
-    let cash = cash_at(d.get(), a);
-    let day = day_end(d.get(), mask, cash, a).account;
-    Closed {
-        day,
-        account: day,
-        report: Report {
-            mask,
-            cash,
-            forfeit: Quantity(0),
-            bill: Mills(0),
-        },
-    }
 }
 
 // In a new month, with the step that the month leaves and the capacity that goes with it.
@@ -162,36 +89,112 @@ fn month_end(d: Date, t: InRange<Terms>, forfeit: Quantity, bill: Mills, day: Af
     }
 }
 
-#[tactic(auto, using(tariff::proofs::Laws::settled_k), unfolding(crate::specs::Closing::month_closing, crate::specs::Closing::after_month, crate::specs::Closing::after_day, crate::specs::Closing::bill_at, crate::specs::Closing::excess_at, crate::specs::Closing::forfeit_at, crate::specs::Closing::next_capacity))]
-fn close_month(
-    is_new: bool,
-    d: InRange<Date>,
-    t: InRange<Terms>,
-    p: InRange<Prices>,
-    a: InRange<Account>,
-) -> Closed
-    requires { a.value.opened ≡ true }
-    ensures { result ≡ month_closing is_new d.value t.value p.value a.value }
-{
-    let date = d.get();
-    let mask = violations(d, a);
-    let cash = cash_at(date, a);
-    let after = day_end(date, mask, cash, a);
-    let day = after.account;
-    let bill = day.month.totals.bill(t, p, day.capacity.mddq);
-    let next = t.capacity(day.step.settled().k);
-    let excess = Limits::of(date.month, next.bcq).forfeit(day.bank);
-    // What was confiscated is told by the account as it came: the day's part has cleared it.
-    let forfeit = forfeit_under(is_new, a.get().today.confiscation, excess);
-    Closed {
-        day,
-        account: month_end(date, t, forfeit, bill, after),
-        report: Report {
-            mask,
-            cash,
-            forfeit,
-            bill,
-        },
+impl Closing {
+    #[tactic(auto, using(crate::proofs::Bounded::bounds), unfolding(crate::specs::Closing::violations_of, crate::specs::Closing::limit_of))]
+    fn violations(self) -> u64
+        ensures { result ≡ violations_of self.date.value self.account.value }
+    {
+        let date = self.date.get();
+        let a = self.account.get();
+        let limits = Limits::of(date.month, a.capacity.bcq);
+        let limit = limits.withdrawal_limit(a.carry);
+        let net = a.month.totals.net;
+        let found = Violations {
+            v1: a.today.v1,
+            v2: a.today.v2,
+            v3: limits.breaks_v3(net),
+            v4: breaks_v4(date.month, limit, net),
+            v5: limits.breaks_v5(self.date, net),
+            v6: limits.breaks_v6(date, a.bank),
+            v7: breaks_v7(a.bank),
+            v8: limits.breaks_v8(a.excused, a.bank),
+        };
+        found.mask()
+    }
+
+    // The bound goes on to day_end and with_cash alone: a type for it would be made here and read once in each.
+    #[tactic(auto, using(crate::proofs::Bounded::bounds), unfolding(crate::specs::Closing::cash_at))]
+    fn cash_at(self) -> Units
+        ensures value { result ≡ cash_at self.date.value self.account.value }
+        ensures bounded { size result ≤ 103060000000 }
+    {
+        let a = self.account.get();
+        Limits::of(self.date.get().month, a.capacity.bcq).cash(a.excused, a.bank)
+    }
+
+    // Whether the excuse goes on, with the bank after cash.
+    #[tactic(auto, using(crate::proofs::Bounded::bounds), unfolding(crate::specs::Closing::excused_still))]
+    fn excused_still(self, bank: Units) -> bool
+        ensures { result ≡ excused_still self.date.value self.account.value bank }
+    {
+        let a = self.account.get();
+        a.excused & !Limits::of(self.date.get().month, a.capacity.bcq).ends_excuse(bank)
+    }
+
+    #[tactic(auto, using(crate::proofs::Bounded::bounds, crate::proofs::Bounded::pending_fits), unfolding(crate::specs::Closing::day_end, crate::specs::Closing::with_cash, crate::specs::State::with_bank, crate::specs::State::with_totals, crate::specs::State::with_month, crate::specs::State::with_excuse, crate::specs::State::with_days, crate::specs::State::with_today, crate::specs::State::no_today))]
+    fn day_end(self, mask: u64, cash: Units) -> AfterDay
+        requires { size cash ≤ 103060000000 }
+        ensures { result.account ≡ day_end self.date.value mask cash self.account.value }
+    {
+        let a = self.account.get();
+        let bank = a.bank + cash;
+        let totals = with_cash(a.month.totals, cash);
+        let excused = self.excused_still(bank);
+        AfterDay {
+            account: Account {
+                bank,
+                month: ThisMonth { totals, ..a.month },
+                excused,
+                violation_days: days(a.violation_days, mask),
+                today: Today::default(),
+                ..a
+            },
+        }
+    }
+
+    #[tactic(auto, unfolding(crate::specs::Closing::day_closing, crate::specs::Closing::after_day))]
+    fn close_day(self) -> Closed
+        ensures { result ≡ day_closing self.date.value self.account.value }
+    {
+        let mask = self.violations();
+        let cash = self.cash_at();
+        let day = self.day_end(mask, cash).account;
+        Closed {
+            day,
+            account: day,
+            report: Report {
+                mask,
+                cash,
+                forfeit: Quantity(0),
+                bill: Mills(0),
+            },
+        }
+    }
+
+    #[tactic(auto, using(tariff::proofs::Laws::settled_k), unfolding(crate::specs::Closing::month_closing, crate::specs::Closing::after_month, crate::specs::Closing::after_day, crate::specs::Closing::bill_at, crate::specs::Closing::excess_at, crate::specs::Closing::forfeit_at, crate::specs::Closing::next_capacity))]
+    fn close_month(self, is_new: bool, t: InRange<Terms>, p: InRange<Prices>) -> Closed
+        ensures { result ≡ month_closing is_new self.date.value t.value p.value self.account.value }
+    {
+        let date = self.date.get();
+        let mask = self.violations();
+        let cash = self.cash_at();
+        let after = self.day_end(mask, cash);
+        let day = after.account;
+        let bill = day.month.totals.bill(t, p, day.capacity.mddq);
+        let next = t.capacity(day.step.settled().k);
+        let excess = Limits::of(date.month, next.bcq).forfeit(day.bank);
+        // What was confiscated is told by the account as it came: the day's part has cleared it.
+        let forfeit = forfeit_under(is_new, self.account.get().today.confiscation, excess);
+        Closed {
+            day,
+            account: month_end(date, t, forfeit, bill, after),
+            report: Report {
+                mask,
+                cash,
+                forfeit,
+                bill,
+            },
+        }
     }
 }
 
@@ -212,9 +215,13 @@ pub fn close_account(is_new: bool, t: InRange<Terms>, e: Admitted, a: InRange<Ac
     requires { a.value.opened ≡ true }
     ensures { result ≡ closing_of is_new t.value e.entry a.value }
 {
+    let closing = Closing {
+        date: e.date(),
+        account: a,
+    };
     match e.kind {
-        Kind::CloseDay => close_day(e.date(), a),
-        Kind::CloseMonth => close_month(is_new, e.date(), t, e.prices(), a),
+        Kind::CloseDay => closing.close_day(),
+        Kind::CloseMonth => closing.close_month(is_new, t, e.prices()),
         // No other kind closes.
         _ => left_alone(a.get()),
     }

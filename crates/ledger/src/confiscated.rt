@@ -3,8 +3,7 @@ ghost use Rattle.std.specs.Prelude.{◌≡◌};
 ghost use Rattle.ledger.specs.Refusals.{Makes};
 ghost use Rattle.ledger.specs.Confiscated.{after_confiscation, confiscation};
 
-use crate::admitted::Admitted;
-use crate::changes::checked;
+use crate::changes::{checked, untold};
 use crate::entries::Entry;
 use crate::refusals::Refusal;
 use crate::state::{Account, Today};
@@ -23,14 +22,9 @@ fn with_confiscation(a: Account, e: Entry) -> Account
 }
 
 #[tactic(auto, unfolding(crate::specs::Confiscated::confiscation, crate::specs::Confiscated::confiscation_checks, crate::specs::Checks::verdict, crate::specs::Refusals::number))]
-pub fn confiscation(a: Account, e: Admitted) -> Result<Account, Refusal>
-    ensures { Makes result (confiscation a e.entry) }
+pub fn confiscation(a: Account, e: Entry) -> Result<Account, Refusal>
+    ensures { Makes result (confiscation a e) }
 {
-    if !a.opened {
-        return Err(Refusal::NotOpen);
-    }
-    if a.today.confiscated {
-        return Err(Refusal::AlreadyTold);
-    }
-    checked(with_confiscation(a, e.entry))
+    untold(a, a.today.confiscated)?;
+    checked(with_confiscation(a, e))
 }

@@ -7,7 +7,7 @@ ghost use Rattle.ledger.specs.Refusals.{Makes};
 ghost use Rattle.ledger.specs.declared.kinds.Kind.TheVariants.{Deliver};
 
 use crate::admitted::Admitted;
-use crate::changes::checked;
+use crate::changes::{checked, untold};
 use crate::refusals::Refusal;
 use crate::state::{Account, ThisMonth, Today};
 use tariff::amounts::{Quantity, Units};
@@ -55,12 +55,7 @@ pub fn delivery(
     ensures { Makes result (delivery t.value account.value e.entry) }
 {
     let a = account.get();
-    if !a.opened {
-        return Err(Refusal::NotOpen);
-    }
-    if a.today.delivered {
-        return Err(Refusal::AlreadyTold);
-    }
+    untold(a, a.today.delivered)?;
     let back_cast = Quantity(e.entry.w2);
     let amount = retained(t.get().retainage, Quantity(e.entry.w1), back_cast);
     checked(delivered(e.entry.date.month, account, amount, back_cast))

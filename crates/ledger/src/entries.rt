@@ -11,12 +11,13 @@ use tariff::terms::Terms;
 
 #[derive(Clone, Copy, PartialEq, Eq, Debug)]
 pub struct Entry {
-    // A number, as any byte may stand there; Kind has the names of those that are kinds.
+    // Kind and flags are numbers, as any byte may stand there; Kind has the names of those that are kinds.
     pub kind: u64,
     pub a: usize,
     pub b: usize,
     pub flags: u64,
     pub date: Date,
+    // Six names and no array, as the definitions of forms and kinds name them.
     pub w1: u64,
     pub w2: u64,
     pub w3: u64,
@@ -25,6 +26,7 @@ pub struct Entry {
     pub w6: u64,
 }
 
+// Of 32 bytes. The archive reads its words from a slice of any length.
 #[tactic(auto, unfolding(crate::specs::Entries::word_at, crate::specs::Entries::byte_at))]
 fn word(bytes: &[u8; 32], at: usize) -> u64
     requires { at + 4 ≤ 32 }

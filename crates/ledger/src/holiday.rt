@@ -4,7 +4,7 @@ ghost use Rattle.ledger.specs.Answers.{refused};
 ghost use Rattle.ledger.specs.Refusals.{number_of};
 ghost use Rattle.ledger.specs.Holiday.{Names, post_holiday};
 
-use crate::admitted::Admitted;
+use crate::entries::Entry;
 use crate::refusals::Refusal;
 use crate::state::Ledger;
 use tariff::dates::Date;
@@ -31,10 +31,10 @@ fn named(l: &Ledger, d: Date) -> Result<Holidays, Refusal>
 }
 
 #[tactic(auto, using(crate::proofs::Refused::refuses), unfolding(crate::specs::Holiday::post_holiday, crate::specs::Holiday::holding, crate::specs::State::with_holidays, crate::specs::Answers::settle, crate::specs::Answers::refused))]
-pub fn post_holiday(l: &mut Ledger, e: Admitted) -> Result<(), Refusal>
-    ensures { refused l.new (number_of result) ≡ post_holiday l.old e.entry }
+pub fn post_holiday(l: &mut Ledger, e: Entry) -> Result<(), Refusal>
+    ensures { refused l.new (number_of result) ≡ post_holiday l.old e }
 {
-    l.holidays = named(l, e.entry.day_named())?;
+    l.holidays = named(l, e.day_named())?;
     l.touched = true;
     Ok(())
 }

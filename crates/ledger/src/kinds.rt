@@ -27,7 +27,7 @@ pub struct Uses {
     pub flags: u64,
     // How many of w1 to w6 it uses.
     pub words: u64,
-    // The version of the rules that brought it, compared and so a number: 1 the old ones, 2 the new ones.
+    // The version of the rules that brought it: 1 the old ones, 2 the new ones. A number, as the definition's table has 255 for what is no kind.
     pub since: u64,
 }
 

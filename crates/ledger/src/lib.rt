@@ -40,7 +40,7 @@ ghost use Rattle.ledger.specs.MarkedCases.{MarkedCases};
 
 use crate::admission::admit;
 use crate::entries::Entry;
-use crate::forms::check;
+use crate::forms::checked_kind;
 use crate::panels::{figure, open_bank};
 use crate::postings::post_admitted;
 use crate::state::in_one_piece;
@@ -52,6 +52,7 @@ use tariff::terms::Terms;
 
 // The types that cross the boundary; the functions that do stand below, and none of them requires anything.
 pub use answers::{Answer, Posted, Report};
+pub use forms::some_units;
 pub use panels::Panel;
 pub use refusals::Refusal;
 pub use state::{Account, Ledger, ThisMonth, Today};
@@ -78,7 +79,7 @@ pub fn fresh(is_new: bool) -> Ledger
 pub fn check_entry(is_new: bool, entry: &[u8]) -> Result<(), Refusal>
     ensures { Unless result (form_number is_new entry.now) }
 {
-    check(is_new, Entry::try_from(entry)?)?;
+    checked_kind(is_new, &Entry::try_from(entry)?)?;
     Ok(())
 }
 
@@ -140,7 +141,7 @@ pub fn measurement_day(ledger: Ledger, year: u64, month: u64) -> u64
     }
 }
 
-// An account's bank; 0 where it is not open, or where there is no such account.
+// An account's bank; 0 where it is not open, or where there is no such account. 0 and no Option: it is a cell of the year sheet.
 pub fn bank(ledger: Ledger, account: usize) -> Units
     ensures { result.0 ≡ bank_of ledger account }
 {

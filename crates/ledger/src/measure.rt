@@ -4,7 +4,7 @@ ghost use Rattle.ledger.specs.Measure.{remeasured, measurement};
 ghost use Rattle.ledger.specs.Refusals.{Makes};
 
 use crate::admitted::Admitted;
-use crate::changes::checked;
+use crate::changes::{checked, untold};
 use crate::refusals::Refusal;
 use crate::state::{Account, ThisMonth};
 use tariff::amounts::Dth;
@@ -32,11 +32,6 @@ pub fn measurement(account: InRange<Account>, e: Admitted) -> Result<Account, Re
     ensures { Makes result (measurement account.value e.entry) }
 {
     let a = account.get();
-    if !a.opened {
-        return Err(Refusal::NotOpen);
-    }
-    if a.month.measured {
-        return Err(Refusal::AlreadyTold);
-    }
+    untold(a, a.month.measured)?;
     checked(remeasured(account, Dth(e.entry.w1)))
 }

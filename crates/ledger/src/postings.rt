@@ -2,7 +2,7 @@
 ghost use Rattle.std.specs.Prelude.{◌≡◌};
 ghost use Rattle.ledger.specs.Answers.{refused};
 ghost use Rattle.ledger.specs.Kinds.{code, kind_of};
-ghost use Rattle.ledger.specs.Posting.{admission, post_kind, post_several, stored, change_of};
+ghost use Rattle.ledger.specs.Posting.{admission, post_kind, stored, change_of};
 ghost use Rattle.ledger.specs.Refusals.{Makes, number_of};
 ghost use Rattle.ledger.specs.State.{account_at};
 
@@ -24,6 +24,10 @@ use crate::usage::usage;
 use tariff::ranged::InRange;
 use tariff::terms::Terms;
 
+// That `admission` is 0 is a fact of ledger and entry together, so it stands in the contracts of all that take both. Tried: a struct
+// of the two with this as its ghost field. By value, the borrow checker covers none that is written through or moved in a branch;
+// lent, the fact would have to hold of the changed ledger too.
+
 // Most kinds see the account alone that they name, and change nothing else.
 #[tactic(auto, using(crate::proofs::Refused::refuses), unfolding(crate::specs::Posting::stored, crate::specs::Answers::refused, crate::specs::Answers::settle, crate::specs::State::account_at, crate::specs::State::nobody, crate::specs::State::no_month, crate::specs::State::no_today, crate::specs::State::no_totals, crate::specs::State::with_account))]
 fn post_one(l: &mut Ledger, e: Admitted) -> Result<(), Refusal>
@@ -38,41 +42,27 @@ fn post_one(l: &mut Ledger, e: Admitted) -> Result<(), Refusal>
     Ok(())
 }
 
-#[tactic(auto, using(crate::proofs::OneAccount::by_uses), unfolding(crate::specs::Posting::post_kind, crate::specs::Answers::refused))]
+#[tactic(auto, unfolding(crate::specs::Posting::post_kind, crate::specs::Posting::post_several, crate::specs::Answers::refused, crate::specs::Kinds::code, crate::specs::Kinds::kind_of, crate::specs::Kinds::lookup))]
 pub fn post_admitted(l: &mut Ledger, e: Admitted) -> Answer
     requires { admission l.old e.entry ≡ 0 }
     ensures { record { answer = result; ledger = l.new } ≡ post_kind l.old e.entry }
-{
-    if e.kind.uses().accounts == 1 {
-        Answer::from(post_one(l, e))
-    } else {
-        post_several(l, e)
-    }
-}
-
-// The kinds that name no account, or two.
-#[tactic(auto, unfolding(crate::specs::Posting::post_several, crate::specs::Answers::refused, crate::specs::Kinds::code, crate::specs::Kinds::lookup, crate::specs::Refusals::number))]
-fn post_several(l: &mut Ledger, e: Admitted) -> Answer
-    requires { admission l.old e.entry ≡ 0 }
-    ensures { record { answer = result; ledger = l.new } ≡ post_several l.old e.entry }
 {
     let outcome = match e.kind {
         Kind::Terms => post_terms(l, e),
         Kind::Transfer => post_transfer(l, e),
         Kind::CloseDay | Kind::CloseMonth => return post_closing(l, e),
-        Kind::Holiday => post_holiday(l, e),
-        // These are change's, and come here as little as a number that is no kind's.
+        Kind::Holiday => post_holiday(l, e.entry),
         Kind::Enrol
         | Kind::Deliver
         | Kind::Trade
         | Kind::Measure
         | Kind::Usage
-        | Kind::Confiscated => Err(Refusal::NoSuchKind),
+        | Kind::Confiscated => post_one(l, e),
     };
     Answer::from(outcome)
 }
 
-// Those that name one, by that account.
+// The kinds that name one account, by that account.
 #[tactic(auto, unfolding(crate::specs::Posting::change_of, crate::specs::Kinds::code, crate::specs::Kinds::lookup, crate::specs::Refusals::number))]
 fn change(t: InRange<Terms>, a: InRange<Account>, e: Admitted) -> Result<Account, Refusal>
     ensures { Makes result (change_of t.value a.value e.entry) }
@@ -82,9 +72,9 @@ fn change(t: InRange<Terms>, a: InRange<Account>, e: Admitted) -> Result<Account
         Kind::Deliver => delivery(t, a, e),
         Kind::Trade => trade(a, e),
         Kind::Measure => measurement(a, e),
-        Kind::Usage => usage(a.get(), e),
-        Kind::Confiscated => confiscation(a.get(), e),
-        // These are post_several's, and come here as little as a number that is no kind's.
+        Kind::Usage => usage(a.get(), e.entry),
+        Kind::Confiscated => confiscation(a.get(), e.entry),
+        // These name none or two, and do not come here; the definition has 2 for them too.
         Kind::Terms | Kind::Transfer | Kind::CloseDay | Kind::CloseMonth | Kind::Holiday => {
             Err(Refusal::NoSuchKind)
         }

@@ -8,6 +8,8 @@ use tariff::holidays::Holidays;
 use tariff::steps::Step;
 use tariff::terms::{Capacity, Terms};
 
+// C lends these structs whole, so a flag stands beside what it speaks of, and nothing here is an Option.
+
 // What every closing clears.
 #[repr(C)]
 #[derive(Clone, Copy, PartialEq, Eq, Default, Debug)]
@@ -49,13 +51,14 @@ pub struct Account {
     pub violation_days: u64,
 }
 
+// Compared and printed nowhere: the code of it would lie in the image.
 #[repr(C)]
 #[derive(Clone, Copy)]
 pub struct Ledger {
     pub begun: bool,
     // Something was accepted today.
     pub touched: bool,
-    // Under which rules it was begun; no posting changes it.
+    // Under which rules it was begun; no posting changes it. A bool, as C has it: an enum of two would be made of it and turned back at each call.
     pub is_new: bool,
     pub date: Date,
     pub terms: Terms,

@@ -15,7 +15,8 @@ use tariff::amounts::Quantity;
 use tariff::months::Month;
 use tariff::ranged::InRange;
 
-// Giver and receiver afterwards. The limit of either is asked before the range of either.
+// Giver and receiver afterwards. The limit of either is asked before the range of either. The quantity's bound is asked here, of trade's booked
+// and of moved: an entry has plain words, so a type for it would be made anew in each kind, for one use.
 #[tactic(auto, using(crate::proofs::Bounded::bounds), unfolding(crate::specs::Transfer::handing_checks, crate::specs::Checks::verdict, crate::specs::Refusals::number))]
 fn handed(
     m: Month,

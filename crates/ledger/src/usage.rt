@@ -3,8 +3,8 @@ ghost use Rattle.std.specs.Prelude.{◌≡◌};
 ghost use Rattle.ledger.specs.Refusals.{Makes};
 ghost use Rattle.ledger.specs.Usage.{metered, usage};
 
-use crate::admitted::Admitted;
-use crate::changes::checked;
+use crate::changes::{checked, untold};
+use crate::entries::Entry;
 use crate::refusals::Refusal;
 use crate::state::{Account, ThisMonth};
 use tariff::amounts::Mcf;
@@ -26,14 +26,9 @@ fn metered(a: Account, usage: Mcf) -> Account
 }
 
 #[tactic(auto, unfolding(crate::specs::Usage::usage, crate::specs::Usage::usage_checks, crate::specs::Usage::after_usage, crate::specs::Checks::verdict, crate::specs::Refusals::number))]
-pub fn usage(a: Account, e: Admitted) -> Result<Account, Refusal>
-    ensures { Makes result (usage a e.entry) }
+pub fn usage(a: Account, e: Entry) -> Result<Account, Refusal>
+    ensures { Makes result (usage a e) }
 {
-    if !a.opened {
-        return Err(Refusal::NotOpen);
-    }
-    if a.month.metered {
-        return Err(Refusal::AlreadyTold);
-    }
-    checked(metered(a, Mcf(e.entry.w1)))
+    untold(a, a.month.metered)?;
+    checked(metered(a, Mcf(e.w1)))
 }

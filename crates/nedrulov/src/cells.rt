@@ -7,7 +7,7 @@ ghost use Rattle.nedrulov.specs.Cells.{cells_of, cells_after};
 use archive::Fault;
 use tariff::amounts::Units;
 
-// Row after row.
+// Row after row. Tried with the cells zipped by `iter_mut`: what is lent is no part of such a loop's state, so an invariant can't speak of it, and the proof didn't close.
 fn put_cells(sheet: &[[Units; 12]; 16], cells: &mut [i64])
     requires { (192 ≤ length cells.old) × (sheet.now ≡ grid (cell_at sheet.now)) }
     ensures { cells.new ≡ cells_of sheet.now ++ drop 192 cells.old }

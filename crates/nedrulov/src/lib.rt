@@ -1,5 +1,5 @@
 // The door for firmware: what a C or Rust program links. Every function answers every input, keeps no state,
-// and writes only to what the caller lends it.
+// and writes only to what the caller lends it. C has no Option and no Result, so numbers and zeros stand in these signatures; inside, they are enums.
 #![tactic(auto)]
 
 mod cells;
@@ -26,8 +26,7 @@ use backcast::{BackCast, LoadCurve};
 use ledger::{Answer, Ledger, Panel, Posted};
 use partners::PartnerList;
 use tariff::amounts::{Dth, Quantity};
-use tariff::bounds::{MOST_RETAINAGE, MOST_UNITS};
-use tariff::delivery::retained;
+use tariff::delivery::Delivery;
 use tariff::limits::Limits;
 use tariff::months::Month;
 
@@ -91,6 +90,7 @@ pub extern "C" fn nedrulov_is_new(archive: &[u8]) -> bool
 }
 
 #[unsafe(no_mangle)]
+#[tactic(auto, using(archive::proofs::Answered::told_once))]
 pub extern "C" fn nedrulov_check(archive: &[u8]) -> Checked
     ensures { result ≡ checked archive.now }
 {
@@ -98,6 +98,7 @@ pub extern "C" fn nedrulov_check(archive: &[u8]) -> Checked
 }
 
 #[unsafe(no_mangle)]
+#[tactic(auto, using(archive::proofs::Answered::placed_once))]
 pub extern "C" fn nedrulov_place(archive: &[u8], section: usize) -> Place
     ensures { result ≡ place_of archive.now section }
 {
@@ -105,6 +106,7 @@ pub extern "C" fn nedrulov_place(archive: &[u8], section: usize) -> Place
 }
 
 #[unsafe(no_mangle)]
+#[tactic(auto, using(archive::proofs::Answered::written_once))]
 pub extern "C" fn nedrulov_write(is_new: bool, list: &[u8], out: &mut [u8]) -> Written
     ensures answer { result ≡ written is_new list.now (length out.old) }
     ensures output { out.new ≡ output_after is_new list.now out.old }
@@ -125,22 +127,19 @@ pub extern "C" fn nedrulov_year_sheet(archive: &[u8], year: u64, cells: &mut [i6
     ensures number { result ≡ cond (ltb (length cells.old) 192) 12 0 }
     ensures cells { cells.new ≡ cells_after (sheet_of archive.now year) cells.old }
 {
-    match put_sheet(archive, year, cells) {
-        Ok(()) => 0,
-        Err(fault) => u64::from(fault),
-    }
+    put_sheet(archive, year, cells).err().map_or(0, u64::from)
 }
 
 // The amount that a DELIVER adds to its bank under the retainage R; 0 where one of the three is out of its range.
 #[unsafe(no_mangle)]
+#[tactic(auto, unfolding(crate::specs::Amounts::delivery_amount, crate::specs::Amounts::deliverable))]
 pub extern "C" fn nedrulov_amount(retainage: u64, delivered: u64, back_cast: u64) -> i64
     ensures { result ≡ delivery_amount retainage delivered back_cast }
 {
-    if (retainage <= MOST_RETAINAGE) & (delivered <= MOST_UNITS) & (back_cast <= MOST_UNITS) {
-        let amount = retained(retainage, Quantity(delivered), Quantity(back_cast));
-        return amount.0;
-    }
-    0
+    Delivery::checked(retainage, Quantity(delivered), Quantity(back_cast)).map_or(
+        0,
+        |delivery| delivery.retained().0,
+    )
 }
 
 // A month's minimum and maximum of a BCQ; 0 and 0 where there is no such month or the BCQ is out of its range.

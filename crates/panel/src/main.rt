@@ -7,7 +7,7 @@ use reading::read_full;
 use std::fmt;
 use std::process::ExitCode;
 
-#[derive(Clone, Copy)]
+#[derive(Drop)]
 enum Line {
     TooLong,
     Shown(Figures),
@@ -29,7 +29,8 @@ impl fmt::Display for Line {
 // Where the line cannot be printed the status is 1. The words for it would make the program 50 KB larger.
 fn main(rt: HostRuntime) -> ExitCode {
     let mut input = rt.reader();
-    // A byte more than an archive may have, which is there only if the input is too long.
+    // A byte more than an archive may have, which is there only if the input is too long. An array: a Vec would ask C for memory, and that it gives
+    // any is one more thing to believe.
     let mut bytes = [0u8; 65537];
     let n = read_full(&mut input, &mut bytes);
     let line = if n == bytes.len() {

@@ -1,18 +1,21 @@
 -- The number is that of the first check that finds something wrong, so each one passed leaves the next to decide.
-use Prim.Native.Nat.{ℕ, ◌≤◌, ◌<◌}
-use mathlib.Core.Path.{◌≡◌, refl, sym, ◌∙◌}
-use mathlib.Core.Bool.{true, cond, not, ◌&&◌}
+use Prim.Native.Nat.{ℕ, ◌<◌}
+use mathlib.Core.Path.{◌≡◌, refl}
+use mathlib.Core.Bool.{true, cond, not}
 use lib.Dec.{leb}
-use borrow.Author.Tests.{leb-false, leb-true, not-false}
-use Rattle.tariff.proofs.Bools.{and_left, and_right}
+use borrow.Author.Tests.{leb-false, not-false}
+use Rattle.std.specs.Prelude.{Result, IsErrAnd}
+use Rattle.std.proofs.lemmas.Result.{err_from_is_err_and}
 use Rattle.ledger.specs.Checks.{verdict}
 use Rattle.ledger.specs.Forms.{some_units}
 use Rattle.ledger.specs.Ranges.{in_range}
+use Rattle.ledger.specs.Refusals.{number}
 use Rattle.ledger.specs.State.{account_at}
-use Rattle.ledger.proofs.Fields.{units_between}
+use Rattle.ledger.proofs.Refused.{refuses}
 use Rattle.ledger.proofs.Verdicts.{clear, verdict_next, verdict_none}
-use Rattle.partners.specs.Listing.{partner_checks}
-use Rattle.partners.specs.Structs.{Ledger}
+use Rattle.arrayvec.specs.ArrayVec.{ArrayVec}
+use Rattle.partners.specs.Listing.{answered, partner_checks, partners_of}
+use Rattle.partners.specs.Structs.{Ledger, Partner, Refusal}
 
 module _ (l : Ledger) (s q : ℕ) where
   pub check_by_check : verdict (partner_checks l s q)
@@ -30,11 +33,6 @@ module _ (l : Ledger) (s q : ℕ) where
     unfolding partner_checks
     is_some = not-false (some_units q) (clear _ refl h 1)
 
-    pub some_fit : (1 ≤ q) × (q ≤ 1000000000)
-    some_fit =
-        let t : leb 1 q && leb q 1000000000 ≡ true = sym (units_between q) ∙ is_some in
-        (leb-true 1 q (and_left (leb 1 q) (leb q 1000000000) t), leb-true q 1000000000 (and_right (leb 1 q) (leb q 1000000000) t))
-
     pub is_ranged : in_range l ≡ true
     unfolding partner_checks
     is_ranged = not-false (in_range l) (clear _ refl h 2)
@@ -46,3 +44,9 @@ module _ (l : Ledger) (s q : ℕ) where
     pub is_open : (account_at l s).opened ≡ true
     unfolding partner_checks
     is_open = not-false (account_at l s).opened (clear _ refl h 4)
+
+-- a refusal is answered with its number and nobody
+pub refused : (l : Ledger) (s q : ℕ) (a : Result (ArrayVec Partner) Refusal) (r : Refusal) → IsErrAnd a (λ x. x ≡ r) → verdict (partner_checks l s q) ≡ number r
+    → answered a ≡ partners_of l s q
+unfolding answered partners_of
+refused l s q a r h e = let p = err_from_is_err_and a h in rw (p.1, p.2, e, refuses r)

@@ -6,7 +6,7 @@ ghost use Rattle.partners.specs.Structs.{Partner};
 use crate::places::Places;
 use ledger::Refusal;
 
-// C has no Result and no lists, so the number and the count lie beside the accounts.
+// C has no Result and no lists, so the number and the count lie beside the accounts. The struct comes from the Result by From, at the one spot below.
 #[repr(C)]
 #[derive(Clone, Copy, PartialEq, Eq, Debug)]
 pub struct PartnerList {
@@ -16,7 +16,8 @@ pub struct PartnerList {
     pub accounts: [u64; 16],
 }
 
-// With 0 in the places that are left.
+// With 0 in the places that are left. An index writes: tried with accounts.iter_mut().zip(..), and the proof did not close, as no invariant of
+// such a loop can name the array.
 fn numbers(places: &Places) -> [u64; 16]
     ensures { result ≡ (answer 0 (map (λ (p : Partner). p.account) places.now.items)).accounts }
 {
@@ -35,7 +36,7 @@ impl From<Result<Places, Refusal>> for PartnerList {
         match places {
             Ok(places) => PartnerList {
                 number: 0,
-                // No From takes a usize to C's u64.
+                // A cast: no From, and a TryFrom would need an arm for what cannot come.
                 count: places.len() as u64,
                 accounts: numbers(&places),
             },

@@ -27,6 +27,7 @@ pub fn partners(ledger: Ledger, seller: u64, quantity: u64) -> PartnerList
 }
 
 // R98: who is listed, how often and in which order; and that this leaves one list only.
+#[tactic(auto, using(crate::proofs::Members::every_list, crate::proofs::Members::no_other, crate::proofs::Orders::every_order))]
 pub fn every_list()
     ensures lists { EveryList }
     ensures order { EveryOrder }

@@ -13,7 +13,7 @@ use reading::read_full;
 use std::{fmt, io};
 
 // An answer's line: its number, and each account of which there is anything to tell.
-#[derive(Clone, Copy)]
+#[derive(Drop)]
 struct Told(Answer);
 
 impl fmt::Display for Told {

@@ -8,7 +8,7 @@ use std::io;
 use tariff::amounts::{Dth, Mcf, Quantity};
 use tariff::bill::{Prices, Totals};
 use tariff::dates::{CalendarMonth, Date};
-use tariff::delivery::retained;
+use tariff::delivery::Delivery;
 use tariff::holidays::Holidays;
 use tariff::months::Month;
 use tariff::ranged::InRange;
@@ -227,39 +227,18 @@ fn dates(rt: &impl Print) -> io::Result<()> {
     Ok(())
 }
 
-// A delivery and its back-cast, before retainage of so many ten-thousandths.
-#[derive(Clone, Copy)]
-struct Delivery {
-    retainage: u64,
-    delivered: u64,
-    back_cast: u64,
-    ghost fits: { (retainage ≤ 9999) × (delivered ≤ 1000000000) × (back_cast ≤ 1000000000) },
-}
-
-impl Delivery {
-    fn of(retainage: u64, delivered: u64, back_cast: u64) -> Delivery
-        requires { (retainage ≤ 9999) × (delivered ≤ 1000000000) × (back_cast ≤ 1000000000) }
-    {
-        Delivery {
-            retainage,
-            delivered,
-            back_cast,
-        }
-    }
-}
-
 fn amounts(rt: &impl Print) -> io::Result<()> {
     print!(rt; "retained")?;
     let deliveries = [
-        Delivery::of(150, 1000, 0),
-        Delivery::of(150, 0, 1001),
-        Delivery::of(0, 0, 1000000000),
-        Delivery::of(9999, 9999, 0),
-        Delivery::of(9999, 10000, 0),
-        Delivery::of(9999, 0, 19999),
+        Delivery::of(150, Quantity(1000), Quantity(0)),
+        Delivery::of(150, Quantity(0), Quantity(1001)),
+        Delivery::of(0, Quantity(0), Quantity(1000000000)),
+        Delivery::of(9999, Quantity(9999), Quantity(0)),
+        Delivery::of(9999, Quantity(10000), Quantity(0)),
+        Delivery::of(9999, Quantity(0), Quantity(19999)),
     ];
     for d in deliveries {
-        let left = retained(d.retainage, Quantity(d.delivered), Quantity(d.back_cast));
+        let left = d.retained();
         print!(rt; " {left}")?;
     }
     println!(rt)

@@ -7,7 +7,7 @@ use std::{fmt, io};
 use tariff::amounts::Units;
 
 // An account's banks at the ends of the months, with a space between two.
-#[derive(Clone, Copy)]
+#[derive(Drop)]
 struct Row([Units; 12]);
 
 impl fmt::Display for Row {

@@ -1,18 +1,17 @@
 -- What a passed or failed test tells of its parts, and laws of choices: each by trying true and false.
 use Prim.Native.Nat.{ℕ, ◌*◌, ◌≤◌}
-use mathlib.Core.Path.{◌≡◌, refl, sym, ◌∙◌, subst}
+use mathlib.Core.Path.{◌≡◌, refl, sym, ◌∙◌}
 use mathlib.Core.Bool.{Bool, true, false, cond, ◌&&◌, ◌||◌}
 use native.Mathlib.Omega.{arith}
 use mir.Val.{bool_byte}
-use lib.Dec.{T}
+use Rattle.std.proofs.lemmas.Bool.{and_parts, or_parts}
 
+-- std's and_parts and or_parts give both at once; a search takes one fact from a lemma, so each has its name here
 pub and_left : (a b : Bool) → a && b ≡ true → a ≡ true
-and_left true b h = refl
-and_left false b h = h
+and_left a b h = (and_parts a b h).0
 
 pub and_right : (a b : Bool) → a && b ≡ true → b ≡ true
-and_right true b h = h
-and_right false b h = absurd (subst T (sym h) tt)
+and_right a b h = (and_parts a b h).1
 
 -- what fails where only the second holds
 pub and_fails : (a b : Bool) → a && b ≡ false → b ≡ true → a ≡ false
@@ -20,12 +19,10 @@ and_fails true b h e = sym e ∙ h
 and_fails false b h e = refl
 
 pub or_left : (a b : Bool) → a || b ≡ false → a ≡ false
-or_left true b h = h
-or_left false b h = refl
+or_left a b h = (or_parts a b h).0
 
 pub or_right : (a b : Bool) → a || b ≡ false → b ≡ false
-or_right true b h = absurd (subst T h tt)
-or_right false b h = h
+or_right a b h = (or_parts a b h).1
 
 pub ruleset parts = (and_left, and_right)
 

@@ -62,7 +62,7 @@ other b (suc (suc i)) h = refl
 turns : ℕ → Bool
 turns m = cond (eqb m 0) true (cond (eqb m 2) true (eqb (30 + (m + m / 8) % 2) (get_or (months false) (m - 1) 0)))
 
-pub length_by_turns : (year m : ℕ) → 1 ≤ m → m ≤ 12 → (m ≡ 2 → ⊥) → 30 + (m + m / 8) % 2 ≡ get_or (lengths year) (m - 1) 0
+length_by_turns : (year m : ℕ) → 1 ≤ m → m ≤ 12 → (m ≡ 2 → ⊥) → 30 + (m + m / 8) % 2 ≡ get_or (lengths year) (m - 1) 0
 unfolding turns
 length_by_turns year m l h n =
     eqb-true (30 + (m + m / 8) % 2) (get_or (months false) (m - 1) 0)

@@ -1,4 +1,4 @@
--- An amount exceeds another as its number does.
+-- An amount exceeds another as its number does. It computes, but no proof above opens a definition of the tariff's (tests/layers), so it is said here.
 use mathlib.Core.Path.{◌≡◌, refl}
 use lib.Signed.{lt_z}
 use Rattle.tariff.specs.Amounts.{exceeds}

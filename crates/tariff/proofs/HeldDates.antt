@@ -65,7 +65,7 @@ stored_next h d hs i l at e =
 
 -- ---- those that are kept
 
-pub kept_append : (first d : Date) (hs : List Date) → kept_from first (hs ++ (d ∷ [])) ≡ kept_from first hs ++ kept_from first (d ∷ [])
+kept_append : (first d : Date) (hs : List Date) → kept_from first (hs ++ (d ∷ [])) ≡ kept_from first hs ++ kept_from first (d ∷ [])
 unfolding kept_from
 kept_append first d [] = refl
 kept_append first d (h ∷ hs) = go (before h first) (kept_append first d hs)

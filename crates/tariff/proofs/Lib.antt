@@ -17,3 +17,4 @@ pub mod Ranges
 pub mod Percentages
 pub mod Charges
 pub mod Capacities
+pub mod MarkedCases

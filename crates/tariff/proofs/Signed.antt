@@ -5,7 +5,9 @@ use mathlib.Core.Bool.{true, ◌&&◌}
 use native.Mathlib.Omega.{arith}
 use lib.IntN.{ℤ, pos, ◌+ℤ◌, ◌-ℤ◌, ◌*ℤ◌, neg_ℤ, nat_abs}
 use lib.Signed.{le_z, quot_z}
-use Rattle.std.proofs.lemmas.Int.{ints, to_z-of_z, to_z_pos, fits_signed_from_abs, unsigned_abs-mul}
+use Rattle.std.proofs.lemmas.Int.{ints, to_z-of_z, to_z_pos, fits_signed_from_abs}
+-- std's law of a product, under a name like those below
+pub use Rattle.std.proofs.lemmas.Int.{unsigned_abs-mul as size_product}
 
 -- ---- sizes
 
@@ -17,9 +19,6 @@ size_sum a b = omega (arith, ints)
 
 pub size_difference : (a b : ℤ) → nat_abs (a -ℤ b) ≤ nat_abs a + nat_abs b
 size_difference a b = omega (arith, ints)
-
-pub size_product : (a b : ℤ) → nat_abs (a *ℤ b) ≡ nat_abs a * nat_abs b
-size_product = unsigned_abs-mul
 
 -- the quotient by a natural number, without its sign
 pub size_quotient_is : (a : ℤ) (n : ℕ) → nat_abs (quot_z a (pos n)) ≡ nat_abs a / n

@@ -94,6 +94,7 @@ impl Limits {
     }
 }
 
+// Units has several ranges (a delivery's, a bank's, three times a bank's), so it is not Ranged by one: each stands in the clauses.
 #[tactic(auto, unfolding(crate::specs::Closing::breaks_v4))]
 pub fn breaks_v4(m: Month, limit: Quantity, net: Units) -> bool
     requires { (limit.0 ≤ most_bank) × (size net ≤ most_bank) }
@@ -134,6 +135,7 @@ pub fn carry(m: Month, limit: Quantity, net: Units) -> Quantity
 }
 
 // How much of it is taken: all under the first rule, under the new one no more than the storage provider confiscated.
+// A bool, as C has it; an enum of two would be made of it and turned back at each call.
 #[tactic(auto, unfolding(crate::specs::Closing::forfeit_under))]
 pub fn forfeit_under(is_new: bool, confiscated: Quantity, excess: Quantity) -> Quantity
     ensures value { result ≡ forfeit_under is_new confiscated excess }

@@ -33,6 +33,13 @@ pub struct CalendarMonth {
 }
 
 impl CalendarMonth {
+    pub fn of(year: u64, month: Month) -> CalendarMonth
+        requires { MonthExists year month }
+        ensures { (result.year ≡ year) × (result.month ≡ month) }
+    {
+        CalendarMonth { year, month }
+    }
+
     pub fn checked(year: u64, month: Month) -> Option<CalendarMonth>
         ensures some { IfSome result (λ m. (m.year ≡ year) × (m.month ≡ month)) }
         ensures variant { IsSome result ↔ MonthExists year month }
@@ -208,7 +215,7 @@ impl CalendarDay {
         365 * years + (years + 3) / 4 + months + (self.date.day - 1)
     }
 
-    // Monday 0 to Sunday 6.
+    // Monday 0 to Sunday 6. A number, as a business day is one below 5.
     #[tactic(auto, unfolding(crate::specs::Dates::weekday))]
     pub fn weekday(self) -> u64
         ensures { result ≡ weekday self.date }

@@ -1,23 +1,73 @@
 // A day's delivery: what it adds to the bank, and the limits on a day.
-ghost use Rattle.std.specs.Prelude.{◌≡◌, ◌≤◌, not};
+ghost use Rattle.std.specs.Prelude.{◌≡◌, ◌≤◌, ◌↔◌, IsSome, IfSome, not};
 ghost use Rattle.tariff.specs.Amounts.{size, below, percent};
 ghost use Rattle.tariff.specs.Delivery.{retained, days_of_injection, breaks_v1, share_of, breaks_v2};
 ghost use Rattle.tariff.specs.Bounds.{most_mdq, most_retainage, most_units};
 
 use crate::amounts::{Dth, Quantity, Units};
+use crate::bounds::{MOST_RETAINAGE, MOST_UNITS};
 use crate::limits::{Limits, Percent};
 use crate::months::Month;
 
-// What retainage leaves of delivered less back-cast, rounded toward zero.
-#[tactic(auto, using(crate::proofs::Signed::sums))]
+// A day's delivery and its back-cast, each in its range, before retainage of so many ten-thousandths.
+#[derive(Clone, Copy, PartialEq, Eq, Debug)]
+pub struct Delivery {
+    pub retainage: u64,
+    pub delivered: Quantity,
+    pub back_cast: Quantity,
+    ghost fits: { (retainage ≤ most_retainage) × (delivered.0 ≤ most_units) × (back_cast.0 ≤ most_units) },
+}
+
+// A range of three values together, so no InRange of one.
+impl Delivery {
+    pub fn of(retainage: u64, delivered: Quantity, back_cast: Quantity) -> Delivery
+        requires { (retainage ≤ most_retainage) × (delivered.0 ≤ most_units) × (back_cast.0 ≤ most_units) }
+        ensures { (result.retainage ≡ retainage) × (result.delivered ≡ delivered) × (result.back_cast ≡ back_cast) }
+    {
+        Delivery {
+            retainage,
+            delivered,
+            back_cast,
+        }
+    }
+
+    pub fn checked(retainage: u64, delivered: Quantity, back_cast: Quantity) -> Option<Delivery>
+        ensures found { IsSome result ↔ ((retainage ≤ most_retainage) × (delivered.0 ≤ most_units) × (back_cast.0 ≤ most_units)) }
+        ensures same { IfSome result (λ d. (d.retainage ≡ retainage) × (d.delivered ≡ delivered) × (d.back_cast ≡ back_cast)) }
+    {
+        if (retainage <= MOST_RETAINAGE)
+            & (delivered.0 <= MOST_UNITS)
+            & (back_cast.0 <= MOST_UNITS)
+        {
+            Some(Delivery {
+                retainage,
+                delivered,
+                back_cast,
+            })
+        } else {
+            None
+        }
+    }
+
+    // What retainage leaves of delivered less back-cast, rounded toward zero.
+    #[tactic(auto, using(crate::proofs::Signed::sums))]
+    pub fn retained(self) -> Units
+        ensures value { result ≡ retained self.retainage self.delivered self.back_cast }
+        ensures bounded { size result ≤ most_units }
+    {
+        let keep = (10000 - self.retainage).cast_signed();
+        let difference = self.delivered.0.cast_signed() - self.back_cast.0.cast_signed();
+        Units(difference * keep / 10000)
+    }
+}
+
+// Of three that are known to lie in their ranges.
 pub fn retained(retainage: u64, delivered: Quantity, back_cast: Quantity) -> Units
     requires { (retainage ≤ most_retainage) × (delivered.0 ≤ most_units) × (back_cast.0 ≤ most_units) }
     ensures value { result ≡ retained retainage delivered back_cast }
     ensures bounded { size result ≤ most_units }
 {
-    let keep = (10000 - retainage).cast_signed();
-    let difference = delivered.0.cast_signed() - back_cast.0.cast_signed();
-    Units(difference * keep / 10000)
+    Delivery::of(retainage, delivered, back_cast).retained()
 }
 
 // The days into which a month's limit on injections is divided.

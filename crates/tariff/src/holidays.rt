@@ -9,7 +9,7 @@ use crate::ranged::InRange;
 
 // C lends it as it is, with a count beside sixteen places: the first `count` of them are taken, in the order of posting.
 #[repr(C)]
-#[derive(Clone, Copy, Default)]
+#[derive(Clone, Copy, PartialEq, Eq, Default, Debug)]
 pub struct Holidays {
     pub count: u64,
     pub dates: [Date; 16],
@@ -25,7 +25,7 @@ impl Holidays {
         Holidays::default()
     }
 
-    // The dates held. A count above sixteen is out of range and counts no more places than there are. C's count has no From into a usize.
+    // The dates held. A count above sixteen is out of range and counts no more places than there are. A cast: no From, and a TryFrom would need an arm for what cannot come.
     #[tactic(auto, unfolding(crate::specs::Holidays::held_dates), using(crate::proofs::HeldDates::held_places))]
     fn held(&self) -> &[Date]
         ensures value { result.now ≡ held_dates self.now }

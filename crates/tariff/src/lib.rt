@@ -20,6 +20,7 @@ ghost use Rattle.tariff.specs.MarkedCases.{MarkedCases};
 ghost use Rattle.tariff.specs.MeasurementDays.{FindsFirst, OnlyOne, EveryMonth, PlainWithoutHolidays, MovesOn};
 
 // The cases worked out in advance hold of the definitions, as one group.
+#[tactic(auto, using(crate::proofs::MarkedCases::all_nine))]
 pub fn marked_cases()
     ensures { MarkedCases }
 {}
@@ -30,6 +31,7 @@ pub fn right_days()
 {}
 
 // R105 and R106: specs/MeasurementDays.antt has each claim in words.
+#[tactic(auto, using(crate::proofs::BusinessDays::finds_first, crate::proofs::BusinessDays::only_one, crate::proofs::BusinessDays::every_month, crate::proofs::BusinessDays::plain_without_holidays, crate::proofs::BusinessDays::moves_on))]
 pub fn measurement_days()
     ensures first { FindsFirst }
     ensures only_one { OnlyOne }

@@ -12,25 +12,27 @@ use crate::months::Month;
 // A percentage. The rider has none above 102, so a percentage of a capacity always fits.
 #[derive(Clone, Copy, PartialEq, Eq, PartialOrd, Ord, Debug)]
 pub struct Percent {
-    pub hundredths: u8,
+    pub hundredths: u64,
     ghost fits: { hundredths ≤ 102 },
 }
 
 impl Percent {
-    pub fn of(hundredths: u8) -> Percent
+    // Not a From: it asks something of its caller, as do the other `of` here.
+    pub fn of(hundredths: u64) -> Percent
         requires { hundredths ≤ 102 }
         ensures { result.hundredths ≡ hundredths }
     {
         Percent { hundredths }
     }
 
+    // A capacity of either range, MDDQ or BCQ, so no Limits. 3060000000 is 102 percent of the most BCQ: the result is a plain quantity, which callers add and compare, so its bound stands in a clause.
     #[tactic(auto, unfolding(crate::specs::Amounts::percent), using(crate::proofs::Percentages::capacity_percent_le))]
     pub fn of_capacity(self, capacity: Dth) -> Quantity
         requires { capacity.0 ≤ most_bcq }
         ensures value { result ≡ percent self.hundredths capacity }
         ensures bounded { result.0 ≤ 3060000000 }
     {
-        Quantity(u64::from(self.hundredths) * capacity.0)
+        Quantity(self.hundredths * capacity.0)
     }
 }
 
@@ -42,6 +44,7 @@ pub struct Limits {
     ghost fits: { bcq.0 ≤ most_bcq },
 }
 
+// A range of two values together, so no InRange of one.
 impl Limits {
     pub fn of(month: Month, bcq: Dth) -> Limits
         requires { bcq.0 ≤ most_bcq }
@@ -83,7 +86,7 @@ impl Limits {
         self.percent(self.month.largest_bank())
     }
 
-    // Of a bank that takes part in a transfer or a trade.
+    // Of a bank that takes part in a transfer or a trade. Two, as gas is passed upward or downward and the rules name both limits.
     #[tactic(auto, unfolding(crate::specs::Limits::above_maximum))]
     pub fn above_maximum(self, bank: Units) -> bool
         ensures { result ≡ above_maximum self.month self.bcq bank }

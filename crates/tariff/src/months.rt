@@ -4,7 +4,7 @@ ghost use Rattle.tariff.specs.Months.{gas_month, winter, minimum, maximum, mmbq,
 
 use crate::limits::Percent;
 
-// By its number in the calendar year. Other numbers than 1 to 12 are no date's month.
+// By its number in the calendar year: a number and no enum, as C hands in any. Other numbers than 1 to 12 are no date's month.
 #[repr(C)]
 #[derive(Clone, Copy, PartialEq, Eq, PartialOrd, Ord, Default, Debug)]
 pub struct Month(pub u64);
@@ -37,7 +37,7 @@ impl Month {
 
     pub const DECEMBER: Month = Month(12);
 
-    // The place in the gas year, April 0 to March 11. A cast, since std has no From between u64 and usize.
+    // The place in the gas year, April 0 to March 11. A cast: no From, and a TryFrom would need an arm for what cannot come.
     #[tactic(auto, unfolding(crate::specs::Months::gas_month))]
     pub fn gas_month(self) -> usize
         ensures { (result ≡ gas_month self) × (result < 12) }
@@ -46,10 +46,10 @@ impl Month {
     }
 
     // What a table of the gas year has for this month.
-    fn percent_in(self, table: [u8; 12]) -> u8
+    fn percent_in(self, table: [u8; 12]) -> u64
         ensures { result ≡ get_or table (gas_month self) 0 }
     {
-        table[self.gas_month()]
+        u64::from(table[self.gas_month()])
     }
 
     // November to March.
@@ -60,7 +60,7 @@ impl Month {
         7 <= self.gas_month()
     }
 
-    // The least bank, in percent of the BCQ, as are the four that follow.
+    // The least bank, in percent of the BCQ, as are the four that follow: five names over `percent_in`, as each table has a definition and a law of its own.
     #[tactic(auto, unfolding(crate::specs::Months::minimum), using(crate::proofs::Percentages::minimum_le))]
     pub fn least_bank(self) -> Percent
         ensures { result.hundredths ≡ minimum self }

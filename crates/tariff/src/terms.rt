@@ -49,6 +49,7 @@ impl Ranged for Terms {
     }
 }
 
+// Dth has two ranges, of MDQ and of BCQ, and C's structs hold plain Dth: a type for each would be made anew at each of seven calls, so they stand in the clauses.
 impl InRange<Terms> {
     #[tactic(auto, unfolding(crate::specs::Terms::mddq_of, crate::specs::Terms::terms_in_range), using(crate::proofs::Capacities::mddq_fits))]
     fn mddq(self, k: u64) -> Dth

@@ -4,15 +4,9 @@ use lib.Seq.{length-take-le}
 use Rattle.archive.proofs.Plans.{planned, head_length, head_kept, pairs_kept, archive_put}
 use Rattle.archive.proofs.writing.put_archive.Goals as goal
 
-pub slice_bounds-copy_from_slice-end : goal.slice_bounds-copy_from_slice-end
-slice_bounds-copy_from_slice-end c = let p = planned _ _ _ c.requires _ c.entries_of-entries.ensures _ c.count_sections-count.ensures in omega (arith, p)
-
 pub slice_bounds-copy_from_slice-end-2 : goal.slice_bounds-copy_from_slice-end-2
 slice_bounds-copy_from_slice-end-2 c =
     let p = planned _ _ _ c.requires _ c.entries_of-entries.ensures _ c.count_sections-count.ensures in sym (length-take-le 8 c.args.out.now (omega (arith, p)))
-
-pub header-requires : goal.header-requires
-header-requires c = let p = planned _ _ _ c.requires _ c.entries_of-entries.ensures _ c.count_sections-count.ensures in omega (arith, p)
 
 pub copy_from_slice-requires : goal.copy_from_slice-requires
 copy_from_slice-requires c =
@@ -24,12 +18,6 @@ put_directory-requires c =
     let p = planned _ _ _ c.requires _ c.entries_of-entries.ensures _ c.count_sections-count.ensures in
     let kept = head_kept c.args.is_new c.args.list.now c.args.out.now _ _ p c.copy_from_slice.new.self (c.copy_from_slice.new.self ++ drop 8 c.args.out.now) (c.copy_from_slice.ensures.after ∙ c.header.ensures) refl in
     (c.count_sections-count.ensures, p.short, omega (arith, p, kept))
-
-pub overflow_mul-count : goal.overflow_mul-count
-overflow_mul-count c = let p = planned _ _ _ c.requires _ c.entries_of-entries.ensures _ c.count_sections-count.ensures in omega (arith, p)
-
-pub overflow_add-count : goal.overflow_add-count
-overflow_add-count c = let p = planned _ _ _ c.requires _ c.entries_of-entries.ensures _ c.count_sections-count.ensures in omega (arith, p)
 
 pub put_sections-requires : goal.put_sections-requires
 put_sections-requires c =

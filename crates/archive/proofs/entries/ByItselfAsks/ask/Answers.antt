@@ -1,8 +1,0 @@
--- The ledger's refusal is handed on.
-use Rattle.std.proofs.lemmas.Result.{err_from_is_err_and}
-use Rattle.archive.specs.Faults.{fault_number}
-use Rattle.archive.proofs.entries.ByItselfAsks.ask.Goals as goal
-
-pub returns-in_err-check_entry : goal.returns-in_err-check_entry
-unfolding fault_number
-returns-in_err-check_entry c = let p = err_from_is_err_and c.from_residual.result c.from_residual.ensures.1 in rw (p.1, p.2) c.in_err-check_entry.ensures
