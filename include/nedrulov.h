@@ -15,8 +15,8 @@
  * no meter is read; in an old one it forfeits all excess, and there are kinds 1 to 9 only. nedrulov_fresh, nedrulov_entry_number and nedrulov_write must be told which is meant, by is_new;
  * every other call sees it in what it is given: in the ledger's is_new, or in the archive's fourth byte, '1' or '2'.
  *
- * Size. All of the library takes 33 KB of read-only memory, built for x86-64-v2. Its functions stand in sections of their own: linked with
- * -Wl,--gc-sections, a program carries those that it calls and what they need, 25 KB for nedrulov_post and nedrulov_panel.
+ * Size. All of the library takes 31 KB of read-only memory, built for x86-64-v2. Its functions stand in sections of their own: linked with
+ * -Wl,--gc-sections, a program carries those that it calls and what they need, 22 KB for nedrulov_post and nedrulov_panel.
  *
  * Measures. Gas that moves is in units, of which a Dth has a hundred; capacities (MDQ, MDDQ, BCQ) are in Dth, consumption
  * is in Mcf, and money in mills, of which a dollar has a thousand.
