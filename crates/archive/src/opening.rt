@@ -3,7 +3,8 @@ ghost use Rattle.std.specs.Prelude.{◌≡◌};
 ghost use Rattle.archive.specs.Layout.{opening_bytes};
 ghost use Rattle.archive.specs.Reading.{opens_as};
 
-// Three letters, then 1 or 2.
+// Three letters, then 1 or 2. Old or new is a bool, as C has it, here and wherever the archive hands it on: an enum of two would be made of it
+// and turned back at each call.
 pub fn opening(is_new: bool) -> [u8; 4]
     ensures { result ≡ opening_bytes is_new }
 {

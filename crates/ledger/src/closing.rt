@@ -69,6 +69,7 @@ fn days(so_far: u64, mask: u64) -> u64
 }
 
 // In a new month, with the step that the month leaves and the capacity that goes with it.
+// Forfeit and bill come from the tariff with these bounds, and are C's plain amounts: a type for them would be made and read once.
 #[tactic(auto, using(tariff::proofs::Laws::settled_k), unfolding(crate::specs::Closing::month_end, crate::specs::Closing::limit_of, crate::specs::Closing::next_capacity, crate::specs::State::with_bank, crate::specs::State::with_measure, crate::specs::State::with_capacity, crate::specs::State::with_month, crate::specs::State::with_carry, crate::specs::State::with_excuse, crate::specs::State::no_month, crate::specs::State::no_totals))]
 fn month_end(d: Date, t: InRange<Terms>, forfeit: Quantity, bill: Mills, day: AfterDay) -> Account
     requires { (forfeit.0 ≤ 300000000000) × (size_mills bill ≤ 2000000000000000) }

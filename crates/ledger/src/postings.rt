@@ -62,6 +62,7 @@ pub fn post_admitted(l: &mut Ledger, e: Admitted) -> Answer
     Answer::from(outcome)
 }
 
+// Terms, account and entry go on together to enrolment and delivery: a struct of the three would be made here and taken apart in each.
 // The kinds that name one account, by that account.
 #[tactic(auto, unfolding(crate::specs::Posting::change_of, crate::specs::Kinds::code, crate::specs::Kinds::lookup, crate::specs::Refusals::number))]
 fn change(t: InRange<Terms>, a: InRange<Account>, e: Admitted) -> Result<Account, Refusal>

@@ -43,6 +43,7 @@ impl Holder {
 
     // Two functions: each side has its own limit and its own sign, and one of a side would have to ask for both. The ledger's Side is its own, and is
     // of an account that changes; no account does here.
+    // Each asks the quantity's bound, which an Offer carries: an Offer has a seller too, of whom neither side is asked.
     pub fn takes(self, quantity: Quantity) -> bool
         requires { quantity.0 ≤ most_units }
         ensures { result ≡ not (above_maximum self.limits.month self.limits.bcq (more self.bank quantity)) }

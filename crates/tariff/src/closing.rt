@@ -94,7 +94,7 @@ impl Limits {
     }
 }
 
-// Units has several ranges (a delivery's, a bank's, three times a bank's), so it is not Ranged by one: each stands in the clauses.
+// Units and Quantity have several ranges (a delivery's, a bank's, three times a bank's), so neither is Ranged by one: each stands in the clauses.
 #[tactic(auto, unfolding(crate::specs::Closing::breaks_v4))]
 pub fn breaks_v4(m: Month, limit: Quantity, net: Units) -> bool
     requires { (limit.0 ≤ most_bank) × (size net ≤ most_bank) }

@@ -32,6 +32,7 @@ pub struct CalendarMonth {
     ghost exists: { MonthExists year month },
 }
 
+// A range of two values together, so no InRange of one.
 impl CalendarMonth {
     pub fn of(year: u64, month: Month) -> CalendarMonth
         requires { MonthExists year month }

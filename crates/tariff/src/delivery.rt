@@ -61,7 +61,8 @@ impl Delivery {
     }
 }
 
-// Of three that are known to lie in their ranges.
+// Of three that are known to lie in their ranges. A posting has them as plain words: the struct of them is made here, so that the ledger need
+// not make it.
 pub fn retained(retainage: u64, delivered: Quantity, back_cast: Quantity) -> Units
     requires { (retainage ≤ most_retainage) × (delivered.0 ≤ most_units) × (back_cast.0 ≤ most_units) }
     ensures value { result ≡ retained retainage delivered back_cast }
@@ -83,6 +84,8 @@ fn days_of_injection(m: Month) -> u64
     }
 }
 
+// An amount's bound is what `retained` promises. Units has several ranges (closing.rt), so it stands in the clauses of the three that ask for it,
+// one of them the ledger's.
 impl Limits {
     #[tactic(auto, unfolding(crate::specs::Delivery::breaks_v1))]
     pub fn breaks_v1(self, amount: Units) -> bool

@@ -50,6 +50,7 @@ impl Ranged for Terms {
 }
 
 // Dth has two ranges, of MDQ and of BCQ, and C's structs hold plain Dth: a type for each would be made anew at each of seven calls, so they stand in the clauses.
+// A step is a plain number in C's struct too, so its most, 100, stands in the clauses of mddq and capacity.
 impl InRange<Terms> {
     #[tactic(auto, unfolding(crate::specs::Terms::mddq_of, crate::specs::Terms::terms_in_range), using(crate::proofs::Capacities::mddq_fits))]
     fn mddq(self, k: u64) -> Dth

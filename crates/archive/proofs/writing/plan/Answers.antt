@@ -1,4 +1,5 @@
 -- The tests stand in the order of the numbers 1 to 12.
+-- `listed` is asked in each goal, as it rests on answers of calls before it (see put_archive).
 use Rattle.std.proofs.Common.{◌∙◌}
 use Rattle.archive.specs.Faults.{fault_number}
 use Rattle.archive.proofs.Answered.{handed_on}

@@ -1,4 +1,6 @@
 -- A planned archive has room in the output: header, directory and list are put one after the other, and none changes the output's length.
+-- What the plan promises rests on answers of calls, so each goal asks it again: as one lemma over the place after them it was tried, and search
+-- did not find that place.
 use Rattle.std.proofs.Common.{arith, drop, ◌++◌, ◌∙◌, sym, refl}
 use lib.Seq.{length-take-le}
 use Rattle.archive.proofs.Plans.{planned, head_length, head_kept, pairs_kept, archive_put}
