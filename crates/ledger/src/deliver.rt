@@ -12,7 +12,7 @@ use crate::refusals::Refusal;
 use crate::state::{Account, ThisMonth, Today};
 use tariff::amounts::{Quantity, Units};
 use tariff::bill::Totals;
-use tariff::delivery::retained;
+use tariff::delivery::Delivery;
 use tariff::limits::Limits;
 use tariff::months::Month;
 use tariff::ranged::InRange;
@@ -57,6 +57,6 @@ pub fn delivery(
     let a = account.get();
     untold(a, a.today.delivered)?;
     let back_cast = Quantity(e.entry.w2);
-    let amount = retained(t.get().retainage, Quantity(e.entry.w1), back_cast);
-    checked(delivered(e.entry.date.month, account, amount, back_cast))
+    let told = Delivery::of(t.get().retainage, Quantity(e.entry.w1), back_cast);
+    checked(delivered(e.entry.date.month, account, told.retained(), back_cast))
 }

@@ -61,16 +61,6 @@ impl Delivery {
     }
 }
 
-// Of three that are known to lie in their ranges. A posting has them as plain words: the struct of them is made here, so that the ledger need
-// not make it.
-pub fn retained(retainage: u64, delivered: Quantity, back_cast: Quantity) -> Units
-    requires { (retainage ≤ most_retainage) × (delivered.0 ≤ most_units) × (back_cast.0 ≤ most_units) }
-    ensures value { result ≡ retained retainage delivered back_cast }
-    ensures bounded { size result ≤ most_units }
-{
-    Delivery::of(retainage, delivered, back_cast).retained()
-}
-
 // The days into which a month's limit on injections is divided.
 #[tactic(auto, unfolding(crate::specs::Delivery::days_of_injection, crate::specs::Months::same_month, crate::specs::Months::november, crate::specs::Months::december))]
 fn days_of_injection(m: Month) -> u64
