@@ -8,7 +8,7 @@ use Rattle.archive.specs.Structs.{Checked, Place, Written}
 use Rattle.archive.specs.declared.answers.Span.{Span}
 use Rattle.archive.specs.declared.faults.Trouble.{Trouble}
 use Rattle.archive.specs.declared.faults.Fault.TheVariants as fault
-use Rattle.archive.specs.Faults.{fault_number, Tells, Lies, Holds}
+use Rattle.archive.specs.Faults.{fault_number, Tells, LiesAt, Holds}
 
 -- the answer by which a `?` hands a fault on
 pub handed_on : {T E : Type 0} (r : Result T E) (e : E) → IsErrAnd r (λ y. y ≡ e) → r ≡ Err e
@@ -18,7 +18,7 @@ pub told_once : (r : Result ⊤ Trouble) (c d : Checked) → Tells r c → Tells
 told_once (Ok x) c d p q = p ∙ sym q
 told_once (Err t) c d p q = p ∙ sym q
 
-pub placed_once : (r : Result Span Trouble) (p q : Place) → Lies r p → Lies r q → p ≡ q
+pub placed_once : (r : Result Span Trouble) (p q : Place) → LiesAt r p → LiesAt r q → p ≡ q
 placed_once (Ok s) p q h k = h ∙ sym k
 placed_once (Err t) p q h k = h ∙ sym k
 

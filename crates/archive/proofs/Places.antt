@@ -9,7 +9,7 @@ use Rattle.std.specs.Prelude.{Option, None, Some, MatchOption}
 use Rattle.std.specs.Option.{ok_or}
 use Rattle.archive.specs.Structs.{Place}
 use Rattle.archive.specs.Entries.{first_entries, entries_of, finding}
-use Rattle.archive.specs.Faults.{fault_number, Lies}
+use Rattle.archive.specs.Faults.{fault_number, LiesAt}
 use Rattle.archive.specs.declared.faults.Fault.TheVariants as fault
 use Rattle.archive.specs.declared.answers.Span.{Span}
 use Rattle.archive.specs.declared.faults.Fault.{Fault}
@@ -42,7 +42,7 @@ module _ (a : List ℕ) where
 
     -- pair i of the directory, or why there is none
     pub asked : (i : ℕ) (o : Option Span) → MatchOption o (section_count a ≤ i) (λ s. (i < section_count a) × (s.start ≡ (pair_at a i).0) × (s.length ≡ (pair_at a i).1) × (s.start + s.length ≤ length a))
-        → Lies (ok_or o (record { fault = fault.NoSuchSection; index = 0 })) (place_of a i)
+        → LiesAt (ok_or o (record { fault = fault.NoSuchSection; index = 0 })) (place_of a i)
     unfolding fault_number
     asked i None h = none_such i h
     asked i (Some s) h = found i s.start s.length h.0 h.1 h.2

@@ -31,8 +31,8 @@ abbrev pub Tells : Result ⊤ Trouble → Checked → Type 0
 Tells r c = MatchResult r (λ _. c ≡ finding 0 0) (λ t. c ≡ finding (fault_number t.fault) t.index)
 
 -- R74: what is answered for the place of a section: the part, or why there is none.
-abbrev pub Lies : Result Span Trouble → Place → Type 0
-Lies r p = MatchResult r (λ s. p ≡ record { number = 0; index = 0; start = s.start; length = s.length }) (λ t. p ≡ nowhere (fault_number t.fault) t.index)
+abbrev pub LiesAt : Result Span Trouble → Place → Type 0
+LiesAt r p = MatchResult r (λ s. p ≡ record { number = 0; index = 0; start = s.start; length = s.length }) (λ t. p ≡ nowhere (fault_number t.fault) t.index)
 
 -- R75: what the writer answers: the archive's length, or why there is none.
 abbrev pub Holds : Result ℕ Trouble → Written → Type 0

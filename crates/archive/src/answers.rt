@@ -2,7 +2,7 @@
 // The numbers stay as fields, as C's structs have them; inside, an answer is a Result.
 ghost use Rattle.std.specs.Prelude.{◌≡◌, ◌<◌};
 ghost use Rattle.archive.specs.Reading.{pair_in};
-ghost use Rattle.archive.specs.Faults.{Tells, Lies, Holds};
+ghost use Rattle.archive.specs.Faults.{Tells, LiesAt, Holds};
 
 use crate::faults::Trouble;
 use crate::words::word;
@@ -74,7 +74,7 @@ impl From<Result<(), Trouble>> for Checked {
 }
 
 impl From<Result<Span, Trouble>> for Place {
-    ghost from_gives = { λ r p. Lies r p };
+    ghost from_gives = { λ r p. LiesAt r p };
 
     #[tactic(auto, unfolding(crate::specs::Reading::nowhere))]
     fn from(answer: Result<Span, Trouble>) -> Place {

@@ -13,7 +13,7 @@ mod words;
 mod writing;
 
 ghost use Rattle.std.specs.Prelude.{◌≡◌, ◌+◌, ◌%◌, ◌≤◌, Err, length, IfOk, MatchResult};
-ghost use Rattle.archive.specs.Faults.{Tells, Lies, Holds, Lent};
+ghost use Rattle.archive.specs.Faults.{Tells, LiesAt, Holds, Lent};
 ghost use Rattle.archive.specs.declared.faults.Fault.TheVariants.{InPieces};
 ghost use Rattle.archive.specs.Writing.{written, output_after};
 ghost use Rattle.archive.specs.Reading.{is_new, checked, place_of};
@@ -65,7 +65,7 @@ pub fn check(archive: &[u8]) -> Result<(), Trouble>
 
 // Where section i lies.
 pub fn place(archive: &[u8], i: usize) -> Result<Span, Trouble>
-    ensures value { Lies result (place_of archive.now i) }
+    ensures value { LiesAt result (place_of archive.now i) }
     ensures within { IfOk result (λ s. s.start + s.length ≤ length archive.now) }
 {
     let accepted = Archive::accepted(archive)?;
