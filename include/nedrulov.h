@@ -11,12 +11,14 @@
  * is proved for every input; see docs/ARCHITECTURE.md.
  *
  * Old and new. A ledger or an archive is old or new, and stays so. In a new one a supplier forfeits no more than the
- * storage provider confiscated, as entries of kind 10, CONFISCATED, tell, and entries of kind 11, HOLIDAY, name days on which
- * no meter is read; in an old one it forfeits all excess, and there are kinds 1 to 9 only. nedrulov_fresh, nedrulov_entry_number and nedrulov_write must be told which is meant, by is_new;
+ * storage provider confiscated, as entries of kind 10, CONFISCATED, tell; entries of kind 11, HOLIDAY, name days on which
+ * no meter is read; and gas goes from one supplier to another by two letters, entries of kind 12, NOTICE, one from each of
+ * them: from 1 April 2027 on by these alone, and no more by TRANSFER. In an old one it forfeits all excess, and there are
+ * kinds 1 to 9 only. nedrulov_fresh, nedrulov_entry_number and nedrulov_write must be told which is meant, by is_new;
  * every other call sees it in what it is given: in the ledger's is_new, or in the archive's fourth byte, '1' or '2'.
  *
- * Size. All of the library takes 31 KB of read-only memory, built for x86-64-v2. Its functions stand in sections of their own: linked with
- * -Wl,--gc-sections, a program carries those that it calls and what they need, 22 KB for nedrulov_post and nedrulov_panel.
+ * Size. All of the library takes 34 KB of read-only memory, built for x86-64-v2. Its functions stand in sections of their own: linked with
+ * -Wl,--gc-sections, a program carries those that it calls and what they need, 25 KB for nedrulov_post and nedrulov_panel.
  *
  * Measures. Gas that moves is in units, of which a Dth has a hundred; capacities (MDQ, MDDQ, BCQ) are in Dth, consumption
  * is in Mcf, and money in mills, of which a dollar has a thousand.
@@ -38,17 +40,20 @@ extern "C" {
 #define NEDRULOV_CELLS 192
 #define NEDRULOV_ENTRY_BYTES 32
 
-/* The number of an answer. The first that applies, in ascending order, is given; of a HOLIDAY 33 to 35 come after 22. */
+/*
+ * The number of an answer. The first that applies, in ascending order, is given; of a HOLIDAY 33 to 35 come after 22, and of
+ * a TRANSFER 36 does.
+ */
 enum {
     NEDRULOV_ACCEPTED = 0,
     /* of an entry or a list by itself */
     NEDRULOV_WRONG_LENGTH = 1,      /* an entry has 32 bytes, a list a multiple of 32 */
-    NEDRULOV_NO_KIND = 2,           /* kinds are 1 to 9, in a new ledger or archive 1 to 11 */
+    NEDRULOV_NO_KIND = 2,           /* kinds are 1 to 9, in a new ledger or archive 1 to 12 */
     NEDRULOV_NO_DATE = 3,           /* the calendar of 2000 to 2099 has no such day */
     NEDRULOV_NO_ACCOUNT = 4,        /* a used account is above 15, or the seller of a partner list */
     NEDRULOV_UNUSED_SET = 5,        /* something is set that the kind does not use */
     NEDRULOV_WORD_RANGE = 6,        /* a word is too small or too large, or the quantity of a partner list */
-    NEDRULOV_WRONG_TRANSFER = 7,    /* TRANSFER of A to A, or w1 and w2 differ */
+    NEDRULOV_WRONG_TRANSFER = 7,    /* TRANSFER of A to A, or w1 and w2 differ; NOTICE of A to A */
     /* of an archive */
     NEDRULOV_WRONG_HEADER = 8,      /* wrong size, opening or zeros, over 1,200 sections, or the directory is cut off */
     NEDRULOV_WRONG_DIRECTORY = 9,   /* directory and file do not fit each other */
@@ -63,7 +68,7 @@ enum {
     NEDRULOV_WRONG_DAY = 23,        /* this kind is not for this day */
     NEDRULOV_WRONG_ACCOUNT = 24,    /* already open for ENROL, or not open for another kind or as the seller of a partner list */
     NEDRULOV_STAYS_ON_FBS = 25,     /* the supplier is not served under EFBS */
-    NEDRULOV_SECOND_TIME = 26,      /* DELIVER or CONFISCATED was posted today, or MEASURE or USAGE this month */
+    NEDRULOV_SECOND_TIME = 26,      /* DELIVER or CONFISCATED was posted today, MEASURE or USAGE this month; or the writer's NOTICE stands */
     NEDRULOV_INCOMPLETE = 27,       /* closing: DELIVER, MEASURE or USAGE is missing somewhere */
     NEDRULOV_PAST_LIMIT = 28,       /* too large an opening, or a bank moved past the month's band */
     NEDRULOV_WOULD_OVERFLOW = 29,   /* a number of the ledger would go out of range */
@@ -73,7 +78,9 @@ enum {
     /* of a HOLIDAY */
     NEDRULOV_HOLIDAY_DATE = 33,     /* the date that it names is none of 2000 to 2099, or not after the ledger's */
     NEDRULOV_HOLIDAY_HELD = 34,     /* sixteen are held already, or this one is */
-    NEDRULOV_NO_BUSINESS_DAY = 35   /* none would be left in its month from the 25th on */
+    NEDRULOV_NO_BUSINESS_DAY = 35,  /* none would be left in its month from the 25th on */
+    /* of a TRANSFER */
+    NEDRULOV_RETIRED = 36           /* a new ledger takes none dated 1 April 2027 or later: two NOTICE are due */
 };
 
 /* Bits of a violation mask. */
@@ -121,6 +128,14 @@ typedef struct {
     uint64_t usage;                 /* Mcf */
 } nedrulov_totals;
 
+/* a supplier's letter for a transfer, or none: of none the other members mean nothing, and a fresh account's are zeros */
+typedef struct {
+    bool stands;                    /* NOTICE accepted, and its counterpart has not come */
+    bool takes;                     /* the writer takes the gas; else it gives it */
+    size_t other;                   /* the account that the letter names */
+    uint64_t units;                 /* 1 to 1,000,000,000 */
+} nedrulov_notice;
+
 /* the day so far: every closing clears it */
 typedef struct {
     bool delivered;                 /* DELIVER accepted */
@@ -128,6 +143,7 @@ typedef struct {
     bool v2;
     bool confiscated;               /* CONFISCATED accepted, be it of 0 */
     uint64_t confiscation;          /* units that it told of */
+    nedrulov_notice notice;
 } nedrulov_today;
 
 /* the month so far: CLOSE MONTH clears it */
@@ -160,7 +176,7 @@ typedef struct {
 typedef struct {
     bool begun;
     bool touched;                   /* something was accepted today */
-    bool is_new;                    /* a forfeit is at most what was confiscated */
+    bool is_new;                    /* a forfeit is at most what was confiscated, and kinds 10 to 12 exist */
     nedrulov_date date;
     nedrulov_terms terms;
     nedrulov_holidays holidays;
@@ -296,7 +312,8 @@ typedef struct {
  * Every open account but the seller that could take the quantity, in units, on the ledger's day: its bank does not end above
  * the month's maximum. None is listed if the seller's bank would end below the month's minimum. The account with most
  * headroom comes first, which is maximum * BCQ - bank before the gas moves; of equal ones the lower number. So an account is
- * listed exactly when a TRANSFER of that day and quantity from the seller to it, posted now, is answered with 0.
+ * listed exactly when, posted now, a NOTICE of that day and quantity from the seller to it and then one from it are answered
+ * with 0, if the ledger is new and neither has a NOTICE that stands; and, on days that have TRANSFERs, exactly when one from it is.
  * 4 if the seller is above 15, 6 if the quantity is not 1 to 1,000,000,000, then 20, 21, and 24 if the seller is not open.
  */
 nedrulov_partner_list nedrulov_partners(nedrulov_ledger ledger, uint64_t seller, uint64_t quantity);
@@ -327,32 +344,37 @@ nedrulov_band_limits nedrulov_band(uint64_t month, uint64_t bcq);
 
 NEDRULOV_ASSERT(size_of_size, sizeof(size_t) == 8);
 NEDRULOV_ASSERT(size_of_bool, sizeof(bool) == 1);
-NEDRULOV_ASSERT(size_of_today, sizeof(nedrulov_today) == 16);
+NEDRULOV_ASSERT(size_of_notice, sizeof(nedrulov_notice) == 24);
+NEDRULOV_ASSERT(takes_offset, offsetof(nedrulov_notice, takes) == 1);
+NEDRULOV_ASSERT(other_offset, offsetof(nedrulov_notice, other) == 8);
+NEDRULOV_ASSERT(units_offset, offsetof(nedrulov_notice, units) == 16);
+NEDRULOV_ASSERT(size_of_today, sizeof(nedrulov_today) == 40);
 NEDRULOV_ASSERT(confiscated_offset, offsetof(nedrulov_today, confiscated) == 3);
 NEDRULOV_ASSERT(confiscation_offset, offsetof(nedrulov_today, confiscation) == 8);
+NEDRULOV_ASSERT(notice_offset, offsetof(nedrulov_today, notice) == 16);
 NEDRULOV_ASSERT(size_of_this_month, sizeof(nedrulov_this_month) == 56);
 NEDRULOV_ASSERT(measured_offset, offsetof(nedrulov_this_month, measured) == 48);
-NEDRULOV_ASSERT(size_of_account, sizeof(nedrulov_account) == 168);
+NEDRULOV_ASSERT(size_of_account, sizeof(nedrulov_account) == 192);
 NEDRULOV_ASSERT(excused_offset, offsetof(nedrulov_account, excused) == 1);
 NEDRULOV_ASSERT(today_offset, offsetof(nedrulov_account, today) == 8);
-NEDRULOV_ASSERT(bank_offset, offsetof(nedrulov_account, bank) == 24);
-NEDRULOV_ASSERT(mdq_offset, offsetof(nedrulov_account, mdq) == 32);
-NEDRULOV_ASSERT(step_offset, offsetof(nedrulov_account, step) == 40);
-NEDRULOV_ASSERT(capacity_offset, offsetof(nedrulov_account, capacity) == 72);
-NEDRULOV_ASSERT(month_offset, offsetof(nedrulov_account, month) == 88);
-NEDRULOV_ASSERT(carry_offset, offsetof(nedrulov_account, carry) == 144);
-NEDRULOV_ASSERT(owed_offset, offsetof(nedrulov_account, owed) == 152);
-NEDRULOV_ASSERT(violation_days_offset, offsetof(nedrulov_account, violation_days) == 160);
+NEDRULOV_ASSERT(bank_offset, offsetof(nedrulov_account, bank) == 48);
+NEDRULOV_ASSERT(mdq_offset, offsetof(nedrulov_account, mdq) == 56);
+NEDRULOV_ASSERT(step_offset, offsetof(nedrulov_account, step) == 64);
+NEDRULOV_ASSERT(capacity_offset, offsetof(nedrulov_account, capacity) == 96);
+NEDRULOV_ASSERT(month_offset, offsetof(nedrulov_account, month) == 112);
+NEDRULOV_ASSERT(carry_offset, offsetof(nedrulov_account, carry) == 168);
+NEDRULOV_ASSERT(owed_offset, offsetof(nedrulov_account, owed) == 176);
+NEDRULOV_ASSERT(violation_days_offset, offsetof(nedrulov_account, violation_days) == 184);
 NEDRULOV_ASSERT(size_of_holidays, sizeof(nedrulov_holidays) == 392);
 NEDRULOV_ASSERT(holiday_dates_offset, offsetof(nedrulov_holidays, dates) == 8);
-NEDRULOV_ASSERT(size_of_ledger, sizeof(nedrulov_ledger) == 3160);
+NEDRULOV_ASSERT(size_of_ledger, sizeof(nedrulov_ledger) == 3544);
 NEDRULOV_ASSERT(is_new_offset, offsetof(nedrulov_ledger, is_new) == 2);
 NEDRULOV_ASSERT(date_offset, offsetof(nedrulov_ledger, date) == 8);
 NEDRULOV_ASSERT(terms_offset, offsetof(nedrulov_ledger, terms) == 32);
 NEDRULOV_ASSERT(holidays_offset, offsetof(nedrulov_ledger, holidays) == 80);
 NEDRULOV_ASSERT(accounts_offset, offsetof(nedrulov_ledger, accounts) == 472);
 NEDRULOV_ASSERT(size_of_answer, sizeof(nedrulov_answer) == 520);
-NEDRULOV_ASSERT(size_of_posted, sizeof(nedrulov_posted) == 3680);
+NEDRULOV_ASSERT(size_of_posted, sizeof(nedrulov_posted) == 4064);
 NEDRULOV_ASSERT(size_of_double, sizeof(double) == 8);
 NEDRULOV_ASSERT(size_of_load_curve, sizeof(nedrulov_load_curve) == 24);
 NEDRULOV_ASSERT(turning_offset, offsetof(nedrulov_load_curve, turning) == 16);

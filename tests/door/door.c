@@ -15,10 +15,15 @@ static void expect(bool right, const char *what, size_t at)
     }
 }
 
+static bool same_notice(const nedrulov_notice *a, const nedrulov_notice *b)
+{
+    return a->stands == b->stands && a->takes == b->takes && a->other == b->other && a->units == b->units;
+}
+
 static bool same_today(const nedrulov_today *a, const nedrulov_today *b)
 {
     return a->delivered == b->delivered && a->v1 == b->v1 && a->v2 == b->v2 && a->confiscated == b->confiscated
-        && a->confiscation == b->confiscation;
+        && a->confiscation == b->confiscation && same_notice(&a->notice, &b->notice);
 }
 
 static bool same_account(const nedrulov_account *a, const nedrulov_account *b)
@@ -182,6 +187,45 @@ static void holidays(void)
     expect(nedrulov_measurement_day(*l, 2026, 5) == 0, "measurement out of range", 0);
 }
 
+/* A letter of account 3 to account 5, and the answer to it; then TRANSFER on the first day without. */
+static void notices(void)
+{
+    uint8_t gives[32] = {12, 3, 5, 0, 0xEA, 0x07, 4, 2, 44, 1, 0, 0};
+    uint8_t takes[32] = {12, 5, 3, 1, 0xEA, 0x07, 4, 2, 44, 1, 0, 0};
+    uint8_t transfer[32] = {4, 3, 5, 0, 0xEB, 0x07, 4, 1, 44, 1, 0, 0, 44, 1, 0, 0};
+    const nedrulov_notice none = {false, false, 0, 0};
+    const nedrulov_notice waiting = {true, false, 5, 300};
+    guarded lent;
+    memset(&lent, 0xA5, sizeof lent);
+    lent.ledger = first_day(true);
+    nedrulov_account *a = &lent.ledger.accounts[3], *b = &lent.ledger.accounts[5];
+    expect(nedrulov_entry_number(true, gives, 32) == NEDRULOV_ACCEPTED, "NOTICE", 0);
+    expect(nedrulov_entry_number(false, gives, 32) == NEDRULOV_NO_KIND, "NOTICE of old ones", 0);
+    expect(nedrulov_post(&lent.ledger, gives, 32).number == NEDRULOV_WRONG_ACCOUNT, "a letter to one not open", 0);
+    *b = *a;
+    a->bank = 1000;
+    b->bank = 7;
+    post_both(&lent, gives, 32, 0);
+    expect(same_notice(&a->today.notice, &waiting) && a->bank == 1000, "a letter that stands", 0);
+    expect(nedrulov_post(&lent.ledger, gives, 32).number == NEDRULOV_SECOND_TIME, "a second letter of the same", 0);
+    a->bank = 299;
+    expect(nedrulov_post(&lent.ledger, takes, 32).number == NEDRULOV_PAST_LIMIT, "more than there is", 0);
+    a->bank = 1000;
+    post_both(&lent, takes, 32, 1);
+    expect(a->bank == 700 && b->bank == 307, "gas moved by two letters", 0);
+    expect(same_notice(&a->today.notice, &none) && same_notice(&b->today.notice, &none), "no letter left", 0);
+    a->today.notice = waiting;
+    a->today.notice.other = 16;
+    expect(nedrulov_post(&lent.ledger, takes, 32).number == NEDRULOV_LEDGER_RANGE, "a letter to nobody", 0);
+    a->today.notice.stands = false;
+    lent.ledger.date.year = 2027;
+    lent.ledger.date.day = 1;
+    expect(nedrulov_post(&lent.ledger, transfer, 32).number == NEDRULOV_RETIRED, "TRANSFER retired", 0);
+    lent.ledger.is_new = false;
+    post_both(&lent, transfer, 32, 2);
+    expect(a->bank == 400 && b->bank == 607 && a->today.notice.other == 16, "TRANSFER of an old ledger", 0);
+}
+
 /* A new archive differs from the old one of the same list in its fourth byte. */
 static void new_archive(uint8_t *archive, size_t length, const uint8_t *list, size_t list_length)
 {
@@ -300,6 +344,7 @@ int main(int argc, char **argv)
     first_day(false);
     forfeits();
     holidays();
+    notices();
     archive_calls(archive, length, archive + body, length - body);
     new_archive(archive, length, archive + body, length - body);
     guarded lent;

@@ -9,7 +9,7 @@ import sys
 # A Rattle struct, the C struct and the Rust struct that stand for it.
 STRUCTS = {
     "Date": "nedrulov_date", "Holidays": "nedrulov_holidays", "Terms": "nedrulov_terms", "Step": "nedrulov_step", "Capacity": "nedrulov_capacity",
-    "Totals": "nedrulov_totals", "Today": "nedrulov_today", "ThisMonth": "nedrulov_this_month", "Account": "nedrulov_account", "Ledger": "nedrulov_ledger",
+    "Totals": "nedrulov_totals", "Notice": "nedrulov_notice", "Today": "nedrulov_today", "ThisMonth": "nedrulov_this_month", "Account": "nedrulov_account", "Ledger": "nedrulov_ledger",
     "Report": "nedrulov_report", "Answer": "nedrulov_answer", "Posted": "nedrulov_posted",
     "Panel": "nedrulov_panel_answer", "Checked": "nedrulov_checked", "Place": "nedrulov_section_place",
     "Written": "nedrulov_written", "Figures": "nedrulov_replay_figures", "Band": "nedrulov_band_limits",

@@ -38,6 +38,16 @@ static void *holiday(void *unused)
     seen = nedrulov_post(&ledger, christmas, 32).number;
     return unused;
 }
+/* A letter, and the one that fits it, so that gas moves. */
+static void *notices(void *unused)
+{
+    for (int account = 0; account < 2; account++)
+        ledger.accounts[account] = (nedrulov_account){.opened = true, .bank = 1, .step = {1, 1, 0, 0}, .capacity = {1, 1}};
+    uint8_t gives[32] = {12, 0, 1, 0, 0xEA, 0x07, 4, 2, 1, 0, 0, 0};
+    uint8_t takes[32] = {12, 1, 0, 1, 0xEA, 0x07, 4, 2, 1, 0, 0, 0};
+    seen = nedrulov_post(&ledger, gives, 32).number + nedrulov_post(&ledger, takes, 32).number;
+    return unused;
+}
 static void *check(void *unused) { seen = nedrulov_check(archive, length).number; return unused; }
 static void *place(void *unused) { seen = nedrulov_place(archive, length, 3).start; return unused; }
 static void *write(void *unused)
@@ -79,7 +89,8 @@ int main(int argc, char **argv)
         const char *name;
         void *(*call)(void *);
     } calls[] = {
-        {"fresh", fresh}, {"post", post}, {"post (closing)", closing}, {"post (holiday)", holiday}, {"post_by_value", by_value}, {"panel", panel},
+        {"fresh", fresh}, {"post", post}, {"post (closing)", closing}, {"post (holiday)", holiday},
+        {"post (notices)", notices}, {"post_by_value", by_value}, {"panel", panel},
         {"check", check}, {"place", place}, {"write", write}, {"figures", figures}, {"year_sheet", sheet},
         {"back_cast", back_cast}, {"measurement_day", measuring}, {"partners", partners},
     };

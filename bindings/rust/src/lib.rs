@@ -4,9 +4,10 @@
 //! The library allocates nothing and keeps no state. A refusal changes nothing.
 //!
 //! A ledger or an archive is old or new, and stays so. In a new one a supplier forfeits no more than the storage
-//! provider confiscated, as entries of kind 10, CONFISCATED, tell, and entries of kind 11, HOLIDAY, name days on which no
-//! meter is read; in an old one it forfeits all excess, and there are kinds 1 to 9 only. [`fresh`], [`entry_number`] and [`write`] must be told which is meant; every other function sees it
-//! in what it is given.
+//! provider confiscated, as entries of kind 10, CONFISCATED, tell, entries of kind 11, HOLIDAY, name days on which no meter
+//! is read, and gas goes from one supplier to another by two letters, entries of kind 12, NOTICE, one from each of them: from
+//! 1 April 2027 on by these alone. In an old one it forfeits all excess, and there are kinds 1 to 9 only. [`fresh`],
+//! [`entry_number`] and [`write`] must be told which is meant; every other function sees it in what it is given.
 
 mod ffi;
 
@@ -69,6 +70,20 @@ pub struct Totals {
     pub usage: u64,
 }
 
+/// A supplier's letter for a transfer, or none: of none the other members mean nothing, and a fresh account's are zeros.
+#[repr(C)]
+#[derive(Clone, Copy, Debug, Default, PartialEq, Eq)]
+pub struct Notice {
+    /// NOTICE was accepted, and its counterpart has not come.
+    pub stands: bool,
+    /// The writer takes the gas; else it gives it.
+    pub takes: bool,
+    /// The account that the letter names.
+    pub other: usize,
+    /// Hundredths of a Dth, 1 to 10^9.
+    pub units: u64,
+}
+
 /// The day so far: every closing clears it.
 #[repr(C)]
 #[derive(Clone, Copy, Debug, Default, PartialEq, Eq)]
@@ -80,6 +95,7 @@ pub struct Today {
     pub confiscated: bool,
     /// The hundredths of a Dth that it told of.
     pub confiscation: u64,
+    pub notice: Notice,
 }
 
 /// The month so far: CLOSE MONTH clears it.
@@ -122,7 +138,7 @@ pub struct Holidays {
 pub struct Ledger {
     pub begun: bool,
     pub touched: bool,
-    /// A forfeit is at most what was confiscated.
+    /// A forfeit is at most what was confiscated, and kinds 10 to 12 exist.
     pub is_new: bool,
     pub date: Date,
     pub terms: Terms,

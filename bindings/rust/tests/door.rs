@@ -59,7 +59,7 @@ fn damaged_entries() {
     for is_new in [false, true] {
         let mut numbers = Numbers(20_260_401);
         let mut ledger = fresh(is_new);
-        let mut seen = [0u32; 36];
+        let mut seen = [0u32; 37];
         for entry in list().chunks(ENTRY_BYTES) {
             let mut damaged = entry.to_vec();
             let bit = numbers.next() as usize % 256;
@@ -88,6 +88,12 @@ fn hostile_ledgers() {
         account.opened = numbers.coin();
         account.today.confiscated = numbers.coin();
         account.today.confiscation = numbers.next() >> (numbers.next() % 64);
+        account.today.notice = Notice {
+            stands: numbers.coin(),
+            takes: numbers.coin(),
+            other: (numbers.next() >> (numbers.next() % 64)) as usize,
+            units: numbers.next() >> (numbers.next() % 64),
+        };
         account.bank = numbers.next() as i64 >> (numbers.next() % 64);
         account.owed = numbers.next() as i64 >> (numbers.next() % 64);
         account.step.k = numbers.next() >> (numbers.next() % 64);

@@ -10,14 +10,15 @@ fn sizes() {
     assert_eq!(size_of::<Step>(), 32);
     assert_eq!(size_of::<Capacity>(), 16);
     assert_eq!(size_of::<Totals>(), 48);
-    assert_eq!(size_of::<Today>(), 16);
+    assert_eq!(size_of::<Notice>(), 24);
+    assert_eq!(size_of::<Today>(), 40);
     assert_eq!(size_of::<ThisMonth>(), 56);
-    assert_eq!(size_of::<Account>(), 168);
+    assert_eq!(size_of::<Account>(), 192);
     assert_eq!(size_of::<Holidays>(), 392);
-    assert_eq!(size_of::<Ledger>(), 3160);
+    assert_eq!(size_of::<Ledger>(), 3544);
     assert_eq!(size_of::<Report>(), 32);
     assert_eq!(size_of::<Answer>(), 520);
-    assert_eq!(size_of::<Posted>(), 3680);
+    assert_eq!(size_of::<Posted>(), 4064);
     assert_eq!(size_of::<Panel>(), 16);
     assert_eq!(size_of::<Checked>(), 16);
     assert_eq!(size_of::<Place>(), 32);
@@ -31,19 +32,23 @@ fn sizes() {
 
 #[test]
 fn offsets() {
+    assert_eq!(offset_of!(Notice, takes), 1);
+    assert_eq!(offset_of!(Notice, other), 8);
+    assert_eq!(offset_of!(Notice, units), 16);
     assert_eq!(offset_of!(Today, confiscated), 3);
     assert_eq!(offset_of!(Today, confiscation), 8);
+    assert_eq!(offset_of!(Today, notice), 16);
     assert_eq!(offset_of!(ThisMonth, measured), 48);
     assert_eq!(offset_of!(Account, excused), 1);
     assert_eq!(offset_of!(Account, today), 8);
-    assert_eq!(offset_of!(Account, bank), 24);
-    assert_eq!(offset_of!(Account, mdq), 32);
-    assert_eq!(offset_of!(Account, step), 40);
-    assert_eq!(offset_of!(Account, capacity), 72);
-    assert_eq!(offset_of!(Account, month), 88);
-    assert_eq!(offset_of!(Account, carry), 144);
-    assert_eq!(offset_of!(Account, owed), 152);
-    assert_eq!(offset_of!(Account, violation_days), 160);
+    assert_eq!(offset_of!(Account, bank), 48);
+    assert_eq!(offset_of!(Account, mdq), 56);
+    assert_eq!(offset_of!(Account, step), 64);
+    assert_eq!(offset_of!(Account, capacity), 96);
+    assert_eq!(offset_of!(Account, month), 112);
+    assert_eq!(offset_of!(Account, carry), 168);
+    assert_eq!(offset_of!(Account, owed), 176);
+    assert_eq!(offset_of!(Account, violation_days), 184);
     assert_eq!(offset_of!(Ledger, touched), 1);
     assert_eq!(offset_of!(Ledger, is_new), 2);
     assert_eq!(offset_of!(Ledger, date), 8);

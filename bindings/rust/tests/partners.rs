@@ -29,6 +29,16 @@ fn transfer(ledger: &Ledger, seller: u64, other: u64, quantity: u64) -> Vec<u8> 
     entry
 }
 
+/// The letters of both for the same, the seller's first.
+fn letters(ledger: &Ledger, seller: u64, other: u64, quantity: u64) -> [Vec<u8>; 2] {
+    [(seller, other, 0), (other, seller, 1)].map(|(writer, other, flag)| {
+        let mut entry = transfer(ledger, writer, other, quantity);
+        entry[..4].copy_from_slice(&[12, writer as u8, other as u8, flag]);
+        entry[12..].fill(0);
+        entry
+    })
+}
+
 #[test]
 fn the_sample() {
     let ledger = sample_ledger();
@@ -45,7 +55,7 @@ fn the_sample() {
 }
 
 #[test]
-fn listed_just_where_a_transfer_is_accepted() {
+fn listed_just_where_a_transfer_or_two_letters_are_accepted() {
     let mut ledger = sample_ledger();
     let mut state = 20_260_401u64;
     let (mut listed, mut left_out) = (0, 0);
@@ -65,6 +75,12 @@ fn listed_just_where_a_transfer_is_accepted() {
             let posted = post_by_value(ledger, &transfer(&ledger, seller, other, quantity));
             let accepted = posted.answer.number == 0;
             assert_eq!(accounts.contains(&other), accepted, "{seller} to {other}, {quantity}");
+            // In a new ledger it is retired on this day, 1 April 2027.
+            let mut new = Ledger { is_new: true, ..ledger };
+            assert_eq!(partners(new, seller, quantity), answer);
+            let letters = letters(&new, seller, other, quantity);
+            let both = letters.iter().all(|letter| post(&mut new, letter).number == 0);
+            assert_eq!(both, accepted, "letters of {seller} and {other}, {quantity}");
             *(if accepted { &mut listed } else { &mut left_out }) += 1;
         }
     }

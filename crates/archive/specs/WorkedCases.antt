@@ -1,6 +1,6 @@
 -- A short list and archives with one fault each: no writer or reader that refuses everything, or has another format, meets these.
 use Rattle.std.specs.Prelude.{ℕ, zero, suc, pos, Bool, true, false, List, [], ◌∷◌, ◌++◌, replicate, ◌≡◌}
-use Rattle.ledger.specs.MarkedCases.{posting, terms, enrol, close_month}
+use Rattle.ledger.specs.MarkedCases.{word, posting, terms, enrol, close_month}
 use Rattle.archive.specs.Entries.{finding}
 use Rattle.archive.specs.Writing.{unwritten, written, output_after}
 use Rattle.archive.specs.Reading.{checked, nowhere, place_of, section_at}
@@ -30,6 +30,24 @@ confiscated = 10 ∷ 0 ∷ 0 ∷ 0 ∷ 235 ∷ 7 ∷ 1 ∷ 31 ∷ 5 ∷ replicat
 -- R102: Christmas named as a holiday.
 abbrev pub holiday : List ℕ
 holiday = posting 11 0 1 2026 12 25 0 0 0
+
+-- R108: account 0 gives 5 units to account 1, in a letter.
+abbrev pub letter : List ℕ
+letter = 12 ∷ 0 ∷ 1 ∷ 0 ∷ 234 ∷ 7 ∷ 4 ∷ 1 ∷ 5 ∷ replicate 23 0
+
+-- R112: an entry of 1 April 2027, from which day on a new ledger has letters alone.
+abbrev pub year_later : ℕ → ℕ → ℕ → ℕ → List ℕ → List ℕ
+year_later kind a b flags words = kind ∷ a ∷ b ∷ flags ∷ 235 ∷ 7 ∷ 4 ∷ 1 ∷ words
+
+-- R37: 5 units from account 0 to account 1 on that day; and what has to come before, with 1,000 units for either.
+abbrev pub transfer : List ℕ
+transfer = year_later 4 0 1 0 (word 5 ++ word 5 ++ replicate 16 0)
+
+abbrev pub two_suppliers : List ℕ
+two_suppliers =
+    year_later 1 0 0 0 (word 120000 ++ word 480000 ++ word 5000400 ++ word 150 ++ replicate 8 0)
+    ++ year_later 2 0 0 2 (word 4200 ++ word 1000 ++ replicate 16 0)
+    ++ year_later 2 1 0 2 (word 4200 ++ word 1000 ++ replicate 16 0)
 
 -- R83: so many months closed, and nothing else.
 abbrev pub closings : ℕ → List ℕ
@@ -65,11 +83,25 @@ pub record WorkedCases : Type 0 where
       × (checked (one_section 49 96 (list ++ confiscated)) ≡ finding 2 2)
       × (written true (list ++ confiscated) 112 ≡ record { number = 0; index = 0; length = 112 })
       × (written false (list ++ confiscated) 112 ≡ unwritten 2 2)
-  -- R84: and so is the eleventh; there is no twelfth.
-  pub eleventh_kind :
-      (checked (one_section 50 96 (list ++ holiday)) ≡ finding 0 0)
-      × (checked (one_section 49 96 (list ++ holiday)) ≡ finding 2 2)
-      × (checked (one_section 50 96 (list ++ posting 12 0 1 0 0 0 0 0 0)) ≡ finding 2 2)
+  -- R84: and so is the eleventh.
+  pub eleventh_kind : (checked (one_section 50 96 (list ++ holiday)) ≡ finding 0 0) × (checked (one_section 49 96 (list ++ holiday)) ≡ finding 2 2)
+  -- R108: and the twelfth; there is no thirteenth.
+  pub twelfth_kind :
+      (checked (one_section 50 96 (list ++ letter)) ≡ finding 0 0)
+      × (checked (one_section 49 96 (list ++ letter)) ≡ finding 2 2)
+      × (written true (list ++ letter) 112 ≡ record { number = 0; index = 0; length = 112 })
+      × (written false (list ++ letter) 112 ≡ unwritten 2 2)
+      × (checked (one_section 50 96 (list ++ posting 13 0 1 0 0 0 0 0 0)) ≡ finding 2 2)
+      × (written true (list ++ posting 13 0 1 0 0 0 0 0 0) 112 ≡ unwritten 2 2)
+  -- R112: the TRANSFER that only a new ledger refuses is written and read by new and old alike, as 36 comes of the ledger; the replay counts it as refused.
+  pub transfer_retired :
+      ((new : Bool) → written new (two_suppliers ++ transfer) 144 ≡ record { number = 0; index = 0; length = 144 })
+      × (checked (one_section 50 128 (two_suppliers ++ transfer)) ≡ finding 0 0)
+      × (checked (one_section 49 128 (two_suppliers ++ transfer)) ≡ finding 0 0)
+      × (figures_of (one_section 50 128 (two_suppliers ++ transfer))
+      ≡ record { number = 0; index = 0; accepted = 3; refused = 1; figure = record { 0 = pos 2000 } })
+      × (figures_of (one_section 49 128 (two_suppliers ++ transfer))
+      ≡ record { number = 0; index = 0; accepted = 4; refused = 0; figure = record { 0 = pos 2000 } })
   -- R87: a refused archive is replayed as no entries to a fresh ledger, new where its first four bytes are those of a new one.
   pub refused_new :
       ((replayed (69 ∷ 70 ∷ 66 ∷ 50 ∷ [])).ledger.is_new ≡ true)

@@ -1,57 +1,26 @@
 -- A list of postings is one posting after another: what each accepted one adds, by the ledger's law, the list adds in total.
-use Prim.Native.Nat.{ℕ}
+use Prim.Native.Nat.{ℕ, ◌≤◌}
 use mathlib.Core.Path.{◌≡◌, refl, sym, ap, ◌∙◌}
-use mathlib.Core.Bool.{Bool, true, false, cond, not, ◌&&◌, false≢true}
+use mathlib.Core.Bool.{Bool, true, false, cond, not, ◌&&◌}
 use mathlib.Core.List.{List, [], ◌∷◌}
-use native.Mathlib.Omega.{arith}
 use lib.Dec.{eqb}
 use lib.IntN.{ℤ, pos, ◌+ℤ◌, +ℤ_idr, +ℤ_idl, +ℤ_assoc}
 use lib.ListN.{length, get_or}
-use borrow.Author.Tests.{ne_eqb, not-true}
+use borrow.Author.Tests.{not-true}
 use Rattle.tariff.proofs.Bools.{either, and_right}
-use Rattle.ledger.specs.Entries.{entry_of}
 use Rattle.ledger.specs.State.{fresh, nobody}
 use Rattle.ledger.specs.Posting.{posted}
 use Rattle.ledger.specs.Panel.{open_bank, open_banks, bank_of}
 use Rattle.ledger.specs.Running.{Line, history, run}
 use Rattle.ledger.specs.declared.state.Ledger.{Ledger}
-use Rattle.ledger.proofs.OneStep.{Sound, Taken}
 use Rattle.ledger.proofs.EveryPosting.{step}
-use Rattle.ledger.proofs.FreshLedger.{fresh_sound, fresh_not_begun, fresh_bank, fresh_owed, fresh_days}
+use Rattle.ledger.proofs.FreshLedger.{fresh_bank, fresh_owed, fresh_days}
 use Rattle.ledger.proofs.Figures.{panel_of_sound, bank_at}
-use Rattle.history.specs.History.{accepted, entry, Known, start, after, Term, total, reported, closes, billed, violated, over_first, of_all, transferred_to, transferred_from, figure_sum, owed_of, days_of, remaining, postings_of, BanksAddUp, PanelAddsUp, DebtsAddUp, DaysAddUp, StrikingChangesNothing}
+use Rattle.history.specs.History.{accepted, Known, known, start, after, Term, total, billed, violated, over_first, of_all, figure_sum, owed_of, days_of, remaining, postings_of, BanksAddUp, PanelAddsUp, DebtsAddUp, DaysAddUp, StrikingChangesNothing, MovesOnce, PairsCross, moves, pairs, LettersStand}
 use Rattle.history.proofs.Sums.{over_cong, over_add, banks_over}
-use Rattle.history.proofs.Lines.{moved, figured, moved_sum, figured_sum, moved_figured, moved_is, balanced}
-
--- ---- one posting, by what is known
-
--- a ledger on the way: it is sound, and its retainage is the one that is known
-record Reached (l : Ledger) (k : Known) : Type 0 where
-  sound : Sound l
-  rated : l.begun ≡ true → l.terms.retainage ≡ k.retainage
-
--- what an accepted line adds, term by term
-record Counted (l : Ledger) (k : Known) (x : Line) (next : Ledger) : Type 0 where
-  reached : Reached next (after k x)
-  banks : (i : ℕ) → bank_of next i ≡ bank_of l i +ℤ moved i k x
-  debts : (i : ℕ) → owed_of next i ≡ owed_of l i +ℤ billed i k x
-  days : (i : ℕ) → days_of next i ≡ days_of l i +ℤ violated i k x
-  balances : of_all transferred_to k x ≡ of_all transferred_from k x
-
-counted : (l : Ledger) (k : Known) (x : Line) (next : Ledger) → Reached l k → Taken l (entry_of x.bytes) x.answer next → Counted l k x next
-unfolding owed_of days_of billed violated reported closes after entry
-counted l k x next s t =
-    record {
-      reached = record { sound = t.sound; rated = λ _. t.retainage ∙ known (eqb (entry_of x.bytes).kind 1) refl };
-      banks = λ i. t.banks i ∙ ap (λ (z : ℤ). bank_of l i +ℤ z) (sym (moved_is k x l i (λ is. s.rated (t.started (ne_eqb (entry_of x.bytes).kind 1 (λ z. omega (arith, z, is)))))));
-      debts = t.debts;
-      days = t.days;
-      balances = balanced k x t.parties;
-    }
-  where
-    known : (first : Bool) → eqb (entry_of x.bytes).kind 1 ≡ first → cond first (entry_of x.bytes).w4 l.terms.retainage ≡ cond first (entry_of x.bytes).w4 k.retainage
-    known true z = refl
-    known false z = s.rated (t.started z)
+use Rattle.history.proofs.Steps.{Reached, fresh_reached, Counted, counted}
+use Rattle.history.proofs.Pairs.{most, none_moves, most_at_start, one_more, letters_of}
+use Rattle.history.proofs.Lines.{moved, figured, moved_sum, figured_sum, moved_figured}
 
 -- ---- whole lists
 
@@ -68,12 +37,26 @@ next_reached l k b s = go (eqb (posted l b).answer.number 0) refl
     go true z = (after k (line l b), (accepts l k b s z).reached)
     go false z = (k, rw ((step l b s.sound).kept z) s)
 
-run_reached : (l : Ledger) (k : Known) (bs : List (List ℕ)) → Reached l k → (m : Known) × Reached (run l bs) m
-run_reached l k [] s = (k, s)
-run_reached l k (b ∷ bs) s = let n = next_reached l k b s in run_reached (posted l b).ledger n.0 bs n.1
+-- the last ledger is reached with what the whole list tells
+reached_known : (l : Ledger) (k : Known) (bs : List (List ℕ)) → Reached l k → Reached (run l bs) (known k (accepted (history l bs)))
+unfolding accepted known
+reached_known l k [] s = s
+reached_known l k (b ∷ bs) s =
+    either (λ (xs : List Line). Reached (run next bs) (known k xs)) (eqb (posted l b).answer.number 0) (x ∷ rest) rest
+    (λ z. reached_known next (after k x) bs (accepts l k b s z).reached)
+    (λ z. reached_known next k bs (rw ((step l b s.sound).kept z) s))
+  where
+    next : Ledger
+    next = (posted l b).ledger
 
-fresh_reached : (new : Bool) → Reached (fresh new) start
-fresh_reached new = record { sound = fresh_sound new; rated = λ o. absurd (false≢true (sym (fresh_not_begun new) ∙ o)) }
+    x : Line
+    x = line l b
+
+    rest : List Line
+    rest = accepted (history (posted l b).ledger bs)
+
+from_fresh_reached : (new : Bool) (bs : List (List ℕ)) → Reached (run (fresh new) bs) (known start (accepted (history (fresh new) bs)))
+from_fresh_reached new bs = reached_known (fresh new) start bs (fresh_reached new)
 
 -- what every accepted posting raises by its term, a list of postings raises by the term's total
 module _ (measure : Ledger → ℤ) (term : Term) (adds : (l : Ledger) (k : Known) (x : Line) (next : Ledger) → Counted l k x next → measure next ≡ measure l +ℤ term k x) where
@@ -131,12 +114,31 @@ figure_adds_up new bs =
     let l = run (fresh new) bs in
     banks_over l.accounts
     ∙ over_cong (length l.accounts) (λ i. open_bank (get_or l.accounts i nobody)) (bank_of l) (λ i. sym (bank_at l i))
-    ∙ ap (λ (n : ℕ). over_first n (bank_of l)) (run_reached (fresh new) start bs (fresh_reached new)).1.sound.sized
+    ∙ ap (λ (n : ℕ). over_first n (bank_of l)) (from_fresh_reached new bs).sound.sized
     ∙ from_fresh (λ l. over_first 16 (bank_of l)) figured figure_adds new (fresh_figure new) bs
     ∙ figured_sum (accepted (history (fresh new) bs))
 
 pub panel_adds_up : PanelAddsUp
-panel_adds_up new bs = panel_of_sound (run (fresh new) bs) (run_reached (fresh new) start bs (fresh_reached new)).1.sound ∙ rw (figure_adds_up new bs)
+panel_adds_up new bs = panel_of_sound (run (fresh new) bs) (from_fresh_reached new bs).sound ∙ rw (figure_adds_up new bs)
+
+-- ---- letters
+
+-- how often a letter moves gas in what is accepted from some ledger on
+moves_at_most : (l : Ledger) (k : Known) (bs : List (List ℕ)) (n : ℕ) → Reached l k → moves n (pairs k (accepted (history l bs))) ≤ most n k
+unfolding accepted pairs
+moves_at_most l k [] n s = none_moves n k
+moves_at_most l k (b ∷ bs) n s =
+    either (λ (xs : List Line). moves n (pairs k xs) ≤ most n k) (eqb (posted l b).answer.number 0) _ (accepted (history (posted l b).ledger bs))
+    (λ z.
+    let t = accepts l k b s z in
+    one_more k (line l b) (pairs (after k (line l b)) (accepted (history (posted l b).ledger bs))) s.orderly n (moves_at_most (posted l b).ledger (after k (line l b)) bs n t.reached))
+    (λ z. moves_at_most (posted l b).ledger k bs n (rw ((step l b s.sound).kept z) s))
+
+pub moves_once : MovesOnce
+moves_once new bs place = rw (most_at_start place) at (moves_at_most (fresh new) start bs place (fresh_reached new))
+
+pub pairs_cross : PairsCross
+pairs_cross new bs = letters_of (accepted (history (fresh new) bs))
 
 -- ---- striking
 
@@ -171,3 +173,8 @@ strike l k (b ∷ bs) (m ∷ ms) s =
 
 pub striking_changes_nothing : StrikingChangesNothing
 striking_changes_nothing new bs marks = strike (fresh new) start bs marks (fresh_reached new)
+
+-- ---- the letters that stand
+
+pub letters_stand : LettersStand
+letters_stand new bs = (from_fresh_reached new bs).stands

@@ -3,21 +3,25 @@ use Prim.Native.Nat.{ℕ, ◌<◌}
 use mathlib.Core.Path.{◌≡◌, refl, sym, ap, ◌∙◌}
 use mathlib.Core.Bool.{Bool, true, false, cond, not, ◌&&◌}
 use mathlib.Core.List.{List}
-use lib.Dec.{eqb}
+use native.Mathlib.Omega.{arith}
+use mathlib.Core.Logic.{◌⊎◌, inl, inr}
+use lib.Dec.{eqb, ltb}
 use lib.IntN.{ℤ, pos, neg_ℤ, ◌-ℤ◌, +ℤ_idl, +ℤ_idr, +ℤ-neg_ℤ_cancel}
-use lib.ListN.{get_or}
+use lib.ListN.{length, get_or}
 use borrow.Author.Tests.{eqb-true, ne_eqb}
+use Rattle.tariff.proofs.Bools.{either}
 use Rattle.tariff.specs.Amounts.{inward, outward}
-use Rattle.ledger.specs.Entries.{entry_of, company_sells}
+use Rattle.ledger.specs.Entries.{entry_of, company_sells, writer_takes}
 use Rattle.ledger.specs.Answers.{quiet}
 use Rattle.ledger.specs.Deliver.{amount_under}
+use Rattle.ledger.specs.Notice.{meets}
 use Rattle.ledger.specs.Running.{Line}
 use Rattle.ledger.specs.declared.state.Ledger.{Ledger}
 use Rattle.ledger.specs.declared.answers.Report.{Report}
 use Rattle.ledger.specs.declared.entries.Entry.{Entry}
 use Rattle.ledger.proofs.ClosedAccounts.{quiet_in, quiet_out, quiet_forfeit, quiet_bill, quiet_mask}
 use Rattle.ledger.proofs.OneStep.{gain_at, report_at}
-use Rattle.history.specs.History.{entry, Known, start, Term, total, by_a, by_b, opened_with, delivered_to, sold_to, bought_from, transferred_to, transferred_from, closes, reported, cashed_in, cashed_out, forfeited, billed, violated, bank_sum, of_all, figure_sum, OnlyClosingsCount}
+use Rattle.history.specs.History.{entry, Known, start, Term, total, by_a, by_b, met, completes, taker, giver, opened_with, delivered_to, sold_to, bought_from, transferred_to, transferred_from, closes, reported, cashed_in, cashed_out, forfeited, billed, violated, bank_sum, over_first, of_all, figure_sum, OnlyClosingsCount}
 use Rattle.history.proofs.Sums.{chain, total_chain, over_chain, only_one}
 
 -- what a line moves for account i, and for all accounts together where its transfers balance
@@ -72,18 +76,22 @@ only_closings_count i k x d8 d9 =
 
 -- ---- a line of any kind
 
--- a property of kinds: at each kind that moves gas, and at all others
-by_kind : (P : ℕ → Type 0) → P 2 → P 3 → P 4 → P 5 → P 8 → P 9
-    → ((n : ℕ) → eqb n 2 ≡ false → eqb n 3 ≡ false → eqb n 4 ≡ false → eqb n 5 ≡ false → eqb n 8 ≡ false → eqb n 9 ≡ false → P n) → (n : ℕ) → P n
-by_kind P p2 p3 p4 p5 p8 p9 others n =
-    at 2 p2 (λ d2. at 3 p3 (λ d3. at 4 p4 (λ d4. at 5 p5 (λ d5. at 8 p8 (λ d8. at 9 p9 (λ d9. others n d2 d3 d4 d5 d8 d9))))))
+-- a property of kinds: at one kind, and at those that are another
+pub at_kind : (P : ℕ → Type 0) (n m : ℕ) → P m → (eqb n m ≡ false → P n) → P n
+at_kind P n m p q = go (eqb n m) refl
+  where
+    go : (t : Bool) → eqb n m ≡ t → P n
+    go true z = rw (eqb-true n m z) p
+    go false z = q z
+
+-- at each kind that moves gas, and at all others
+by_kind : (P : ℕ → Type 0) → P 2 → P 3 → P 4 → P 5 → P 8 → P 9 → P 12
+    → ((n : ℕ) → eqb n 2 ≡ false → eqb n 3 ≡ false → eqb n 4 ≡ false → eqb n 5 ≡ false → eqb n 8 ≡ false → eqb n 9 ≡ false → eqb n 12 ≡ false → P n) → (n : ℕ) → P n
+by_kind P p2 p3 p4 p5 p8 p9 p12 others n =
+    at 2 p2 (λ d2. at 3 p3 (λ d3. at 4 p4 (λ d4. at 5 p5 (λ d5. at 8 p8 (λ d8. at 9 p9 (λ d9. at 12 p12 (λ d12. others n d2 d3 d4 d5 d8 d9 d12)))))))
   where
     at : (m : ℕ) → P m → (eqb n m ≡ false → P n) → P n
-    at m p q = go (eqb n m) refl
-      where
-        go : (t : Bool) → eqb n m ≡ t → P n
-        go true z = rw (eqb-true n m z) p
-        go false z = q z
+    at = at_kind P n
 
 ruleset zeros = (quiet_in, quiet_out, quiet_forfeit, +ℤ_idl, +ℤ_idr)
 
@@ -92,9 +100,17 @@ by_side true true w = +ℤ_idr w
 by_side true false w = +ℤ_idl (neg_ℤ w)
 by_side false u w = refl
 
+by_pair : (t u v : Bool) (w : ℤ) → cond (t && u) w (pos 0) -ℤ cond (t && v) w (pos 0) ≡ cond t (cond u w (pos 0) -ℤ cond v w (pos 0)) (pos 0)
+by_pair true u v w = refl
+by_pair false u v w = refl
+
 module _ (k : Known) (x : Line) where
   abbrev e : Entry
   e = entry_of x.bytes
+
+  -- whether a letter with the line's fields answers one that stands
+  abbrev answers : Bool
+  answers = ltb 0 (length (met e k.standing))
 
   module _ (l : Ledger) (i : ℕ) where
     abbrev moved_by : ℕ → ℤ
@@ -103,33 +119,43 @@ module _ (k : Known) (x : Line) where
         (cond (eqb n 3 && eqb e.a i) (amount_under k.retainage e).0 (pos 0))
         (cond ((eqb n 5 && eqb e.a i) && company_sells e) (pos e.w1) (pos 0))
         (cond ((eqb n 5 && eqb e.a i) && not (company_sells e)) (pos e.w1) (pos 0))
-        (cond (eqb n 4 && eqb e.b i) (pos e.w1) (pos 0))
-        (cond (eqb n 4 && eqb e.a i) (pos e.w1) (pos 0))
+        (cond (eqb n 4 && eqb e.b i) (pos e.w1) (cond ((eqb n 12 && answers) && eqb (taker e) i) (pos e.w1) (pos 0)))
+        (cond (eqb n 4 && eqb e.a i) (pos e.w1) (cond ((eqb n 12 && answers) && eqb (giver e) i) (pos e.w1) (pos 0)))
         (pos (inward (report_at n x.answer i).cash).0)
         (pos (outward (report_at n x.answer i).cash).0)
         (pos (report_at n x.answer i).forfeit.0)
 
-    -- the R of a delivery is the ledger's
+    -- the R of a delivery is the ledger's, and so is the counterpart of a letter
     Agreed : ℕ → Type 0
-    Agreed n = (n ≡ 3 → l.terms.retainage ≡ k.retainage) → moved_by n ≡ gain_at n l e x.answer i
+    Agreed n = (n ≡ 3 → l.terms.retainage ≡ k.retainage) → (n ≡ 12 → meets l e ≡ answers) → moved_by n ≡ gain_at n l e x.answer i
 
     agreed : (n : ℕ) → Agreed n
-    unfolding Agreed
+    unfolding Agreed taker giver
     agreed =
-        by_kind Agreed (λ r. simp zeros) (λ r. rw (r refl) (simp zeros)) (λ r. simp zeros) (λ r. simp zeros (by_side (eqb e.a i) (company_sells e) (pos e.w1)))
-        (λ r. simp +ℤ_idl) (λ r. simp +ℤ_idl) (λ n d2 d3 d4 d5 d8 d9 r. rw (d2, d3, d4, d5, d8, d9) (simp zeros))
+        by_kind Agreed (λ r m. simp zeros) (λ r m. rw (r refl) (simp zeros)) (λ r m. simp zeros) (λ r m. simp zeros (by_side (eqb e.a i) (company_sells e) (pos e.w1)))
+        (λ r m. simp +ℤ_idl) (λ r m. simp +ℤ_idl) (λ r m. rw (m refl) (simp zeros (by_pair answers (eqb (taker e) i) (eqb (giver e) i) (pos e.w1)))) (λ n d2 d3 d4 d5 d8 d9 d12 r m. rw (d2, d3, d4, d5, d8, d9, d12) (simp zeros))
 
-    pub moved_is : (e.kind ≡ 3 → l.terms.retainage ≡ k.retainage) → moved i k x ≡ gain_at e.kind l e x.answer i
-    unfolding moved opened_with delivered_to sold_to bought_from transferred_to transferred_from cashed_in cashed_out forfeited reported closes by_a by_b entry Agreed
+    pub moved_is : (e.kind ≡ 3 → l.terms.retainage ≡ k.retainage) → (e.kind ≡ 12 → meets l e ≡ answers) → moved i k x ≡ gain_at e.kind l e x.answer i
+    unfolding moved opened_with delivered_to sold_to bought_from transferred_to transferred_from cashed_in cashed_out forfeited completes reported closes by_a by_b entry Agreed
     moved_is = agreed e.kind
 
-  -- what a transfer takes from one account it brings to the other
-  pub balanced : (e.kind ≡ 4 → (e.a < 16) × (e.b < 16)) → of_all transferred_to k x ≡ of_all transferred_from k x
-  unfolding of_all transferred_to transferred_from by_a by_b entry
-  balanced within = go (eqb e.kind 4) refl
-    where
-      go : (t : Bool) → eqb e.kind 4 ≡ t → of_all transferred_to k x ≡ of_all transferred_from k x
-      go true z =
-          let h = within (eqb-true e.kind 4 z) in
-          rw z (only_one e.b (pos e.w1) h.1 ∙ sym (only_one e.a (pos e.w1) h.0))
-      go false z = rw z
+  -- what a transfer or a pair of letters takes from one account it brings to the other
+  module _ (within : (e.kind ≡ 4) ⊎ (e.kind ≡ 12) → (e.a < 16) × (e.b < 16)) where
+    one_of : (t : Bool) (i j : ℕ) → i < 16 → j < 16 → cond t i j < 16
+    one_of t i j h g = either (λ (n : ℕ). n < 16) t i j (λ _. h) (λ _. g)
+
+    pub balanced : of_all transferred_to k x ≡ of_all transferred_from k x
+    unfolding of_all transferred_to transferred_from completes taker giver by_a by_b entry
+    balanced = go (eqb e.kind 4) (eqb e.kind 12) answers refl refl
+      where
+        go : (t u c : Bool) → eqb e.kind 4 ≡ t → eqb e.kind 12 ≡ u
+            → over_first 16 (λ i. cond (t && eqb e.b i) (pos e.w1) (cond ((u && c) && eqb (taker e) i) (pos e.w1) (pos 0)))
+            ≡ over_first 16 (λ i. cond (t && eqb e.a i) (pos e.w1) (cond ((u && c) && eqb (giver e) i) (pos e.w1) (pos 0)))
+        go true true c z y = absurd (omega (arith, eqb-true e.kind 4 z, eqb-true e.kind 12 y))
+        go true false c z y = let h = within (inl (eqb-true e.kind 4 z)) in only_one e.b (pos e.w1) h.1 ∙ sym (only_one e.a (pos e.w1) h.0)
+        go false true true z y =
+            let h = within (inr (eqb-true e.kind 12 y)) in
+            let t = writer_takes e in
+            only_one (taker e) (pos e.w1) (one_of t e.a e.b h.0 h.1) ∙ sym (only_one (giver e) (pos e.w1) (one_of t e.b e.a h.1 h.0))
+        go false true false z y = refl
+        go false false c z y = refl

@@ -1,19 +1,20 @@
--- Numbers 2 to 7 and 20 to 23 are one list of checks, so that none was given tells of each that it found nothing wrong: what that says of the entry and the ledger.
+-- Numbers 2 to 7, 20 to 23 and 36 are one list of checks, so that none was given tells of each that it found nothing wrong: what that says of the entry and the ledger.
 use Prim.Native.Nat.{ℕ}
-use mathlib.Core.Path.{◌≡◌, refl, sym, ◌∙◌}
+use mathlib.Core.Path.{◌≡◌, refl, sym, ap, ◌∙◌}
 use mathlib.Core.Bool.{Bool, true, false, cond, not, ◌&&◌}
 use lib.Dec.{eqb, leb}
 use borrow.Author.Tests.{eqb-true, eq-eqb, ne_eqb, not-false}
-use Rattle.tariff.specs.Dates.{real, same_date}
+use Rattle.tariff.specs.Dates.{before, real, same_date}
 use Rattle.ledger.specs.Checks.{verdict}
 use Rattle.ledger.specs.Kinds.{code, kind_of, version}
 use Rattle.ledger.specs.Forms.{field_checks, field_number, entry_checks, entry_number}
 use Rattle.ledger.specs.Ranges.{in_range}
-use Rattle.ledger.specs.Days.{wrong_day}
+use Rattle.ledger.specs.Days.{letters_alone, retired, wrong_day}
 use Rattle.ledger.specs.State.{held_in}
 use Rattle.ledger.specs.Posting.{standing_checks, admission}
 use Rattle.ledger.specs.Structs.{Entry, Ledger}
 use Rattle.ledger.specs.contracts.kinds as kinds
+use Rattle.ledger.specs.declared.admitted.Admitted.{Admitted}
 use Rattle.ledger.specs.declared.kinds.Kind.{Kind}
 use Rattle.ledger.specs.declared.kinds.Kind.TheVariants as kind
 use Rattle.ledger.proofs.KindCases.{is_terms}
@@ -47,11 +48,16 @@ module _ (l : Ledger) (e : Entry) where
       go false n m z q = q
 
 -- an entry right in itself, by what is asked of the ledger and the day, each test by its value
-pub standing : (l : Ledger) (e x : Entry) (k : Kind) → entry_number l.is_new e ≡ 0 → x ≡ e → x.kind ≡ code k → (fits other same wrong : Bool)
-    → fits ≡ in_range l → other ≡ not (sameb kinds.Kind.the_type k kind.Terms) → same ≡ same_date e.date l.date → wrong ≡ wrong_day l.touched (held_dates l.holidays) x
-    → admission l e ≡ cond (not fits) 20 (cond (not l.begun && other) 21 (cond (l.begun && not same) 22 (cond wrong 23 0)))
+pub standing : (l : Ledger) (e x : Entry) (k : Kind) → entry_number l.is_new e ≡ 0 → x ≡ e → x.kind ≡ code k → (fits other same gone wrong : Bool)
+    → fits ≡ in_range l → other ≡ not (sameb kinds.Kind.the_type k kind.Terms) → same ≡ same_date e.date l.date → gone ≡ retired l.is_new x → wrong ≡ wrong_day l.touched (held_dates l.holidays) x
+    → admission l e ≡ cond (not fits) 20 (cond (not l.begun && other) 21 (cond (l.begun && not same) 22 (cond gone 36 (cond wrong 23 0))))
 unfolding standing_checks verdict held_in
-standing l e x k right is named fits other same wrong f o s w = cc (admission_standing l e right, is_terms k)
+standing l e x k right is named fits other same gone wrong f o s g w = cc (admission_standing l e right, is_terms k)
+
+-- a TRANSFER is retired where the ledger is new and its date is not before the day
+pub is_retired : (new : Bool) (e : Admitted) → e.kind ≡ kind.Transfer → (early : Bool) → early ≡ before e.entry.date letters_alone → new && not early ≡ retired new e.entry
+unfolding retired code
+is_retired new e is early was = rw (eq-eqb e.entry.kind 4 (e.named ∙ ap code is)) (ap (λ (b : Bool). new && not b) was)
 
 -- the number of an entry right in itself has none of 2 to 7
 pub own_right : (new : Bool) (e : Entry) → entry_number new e ≡ 0 → field_number e ≡ 0
@@ -89,4 +95,4 @@ module _ (l : Ledger) (e : Entry) (h : admission l e ≡ 0) where
   -- it is a day that the kind may have
   pub is_day : wrong_day l.touched (held_in l) e ≡ false
   unfolding admission entry_checks field_checks standing_checks
-  is_day = clear _ refl h 9
+  is_day = clear _ refl h 10

@@ -1,8 +1,9 @@
--- Old or new is asked in two places only, for the kinds that there are and for the forfeit: every other rule makes the same of both.
+-- Old or new is asked in three places only, for the kinds that there are, for a TRANSFER that comes too late and for the forfeit: every other rule makes
+-- the same of both.
 use Prim.Native.Nat.{ℕ}
 use mathlib.Core.Path.{◌≡◌, refl, sym, ap, ◌∙◌}
 use mathlib.Core.Bool.{Bool, true, false, cond, not, ◌&&◌}
-use mathlib.Core.List.{List, [], ◌∷◌, ◌++◌, map}
+use mathlib.Core.List.{List, [], ◌∷◌, map}
 use mathlib.Core.Logic.{inl, inr}
 use native.Mathlib.Omega.{arith}
 use lib.Dec.{eqb, leb}
@@ -17,15 +18,17 @@ use Rattle.ledger.specs.Structs.{Account, Change, Closed, Entry, Uses, Ledger, P
 use Rattle.ledger.specs.Checks.{Check, verdict}
 use Rattle.ledger.specs.Kinds.{kind_of, lookup, version}
 use Rattle.ledger.specs.Entries.{day_named, entry_of, prices_of}
-use Rattle.ledger.specs.Forms.{entry_checks, field_checks}
+use Rattle.ledger.specs.Forms.{entry_checks}
 use Rattle.ledger.specs.State.{account_at, held_in, with_account, with_bank, with_capacity, with_carry, with_excuse, with_holidays, with_measure, with_month}
 use Rattle.ledger.specs.Ranges.{account_in_range, every_account, in_range}
 use Rattle.ledger.specs.Answers.{plain, refused, settle}
 use Rattle.ledger.specs.Terms.{post_terms, terms_checks, terms_next}
 use Rattle.ledger.specs.Transfer.{giver, post_transfer, receiver, transfer_checks}
+use Rattle.ledger.specs.Days.{retired}
 use Rattle.ledger.specs.Closing.{after_closing, after_day, after_month, closing_of, day_closing, excess_at, forfeit_at, left_alone, month_closing, month_end, next_capacity, ready, report_of, stays_in_range}
 use Rattle.ledger.specs.Closings.{closed, closing_checks, post_closing}
 use Rattle.ledger.specs.Holiday.{holding, holiday_checks, post_holiday}
+use Rattle.ledger.specs.Notice.{exchanged, meets, notice_checks, post_notice, waiting}
 use Rattle.ledger.specs.Posting.{admission, change_of, post_entry, post_kind, post_several, posted, standing_checks, stored}
 use Rattle.ledger.specs.OldAndNew.{AcceptsAlike, AlikeOtherwise, OnlyNew, ReportsAlike, SameButForfeit, told}
 use Rattle.ledger.proofs.KindCases.{done, each, ◌then◌}
@@ -41,19 +44,43 @@ same_since kind =
     each (λ (k : Uses). (OnlyNew kind → ⊥) → leb k.since 2 ≡ leb k.since 1) kind _
     ((λ _ _. refl) then (λ _ _. refl) then (λ _ _. refl) then (λ _ _. refl) then (λ _ _. refl) then (λ _ _. refl) then (λ _ _. refl) then (λ _ _. refl) then (λ _ _. refl)
     then (λ is d. absurd (d (inl is)))
-    then (λ is d. absurd (d (inr is)))
+    then (λ is d. absurd (d (inr (inl is))))
+    then (λ is d. absurd (d (inr (inr is))))
     then done)
     (λ _. refl)
 
 nine_is_old : (kind : ℕ) → kind ≡ 9 → OnlyNew kind → ⊥
 nine_is_old kind nine (inl ten) = omega (arith, nine, ten)
-nine_is_old kind nine (inr eleven) = omega (arith, nine, eleven)
+nine_is_old kind nine (inr (inl eleven)) = omega (arith, nine, eleven)
+nine_is_old kind nine (inr (inr twelve)) = omega (arith, nine, twelve)
 
 same_version : (new old : Bool) (kind : ℕ) → (OnlyNew kind → ⊥) → leb (kind_of kind).since (version new) ≡ leb (kind_of kind).since (version old)
 same_version true true kind d = refl
 same_version true false kind d = same_since kind d
 same_version false true kind d = sym (same_since kind d)
 same_version false false kind d = refl
+
+-- an old ledger retires none
+old_transfers : (e : Entry) → retired false e ≡ false
+unfolding retired
+old_transfers e = none (eqb e.kind 4)
+  where
+    none : (t : Bool) → t && false ≡ false
+    none true = refl
+    none false = refl
+
+-- a posting that a new ledger does not retire, none does
+same_retired : (new old : Bool) (e : Entry) → retired true e ≡ false → retired new e ≡ retired old e
+same_retired new old e h = none new ∙ sym (none old)
+  where
+    none : (n : Bool) → retired n e ≡ false
+    none true = h
+    none false = old_transfers e
+
+-- no closing is retired
+nine_stays : (e : Entry) → e.kind ≡ 9 → retired true e ≡ false
+unfolding retired
+nine_stays e nine = rw (ne_eqb e.kind 4 (λ four. omega (arith, four, nine)))
 
 -- ---- the closing of an account
 
@@ -138,21 +165,21 @@ module _ (l : Ledger) (new : Bool) where
   choose true x y p q = p
   choose false x y p q = q
 
+  told_cond : (t : Bool) (x y : Ledger) → cond t (told new x) (told new y) ≡ told new (cond t x y)
+  told_cond true x y = refl
+  told_cond false x y = refl
+
   refused_twin : (n : ℕ) → refused (told new l) n ≡ twin (refused l n)
   unfolding refused
   refused_twin n = refl
 
   settled_twin : (n : ℕ) (next : Ledger) → settle (told new l) n (told new next) ≡ twin (settle l n next)
   unfolding settle
-  settled_twin n next = ap (λ (m : Ledger). record { answer = plain n; ledger = m }) (go (eqb n 0))
-    where
-      go : (t : Bool) → cond t (told new next) (told new l) ≡ told new (cond t next l)
-      go true = refl
-      go false = refl
+  settled_twin n next = ap (λ (m : Ledger). record { answer = plain n; ledger = m }) (told_cond (eqb n 0) next l)
 
-  admission_twin : (e : Entry) → (OnlyNew e.kind → ⊥) → admission (told new l) e ≡ admission l e
+  admission_twin : (e : Entry) → (OnlyNew e.kind → ⊥) → retired true e ≡ false → admission (told new l) e ≡ admission l e
   unfolding admission entry_checks standing_checks in_range told held_in
-  admission_twin e c = ap (λ (known : Bool). verdict ((not known, 2) ∷ field_checks e ++ standing_checks l e)) (same_version new l.is_new e.kind c)
+  admission_twin e c r = rw (same_version new l.is_new e.kind c, same_retired new l.is_new e r)
 
   module _ (e : Entry) where
     stored_twin : (c : Change) → stored (told new l) e.a c ≡ twin (stored l e.a c)
@@ -171,6 +198,12 @@ module _ (l : Ledger) (new : Bool) where
     holiday_twin : post_holiday (told new l) e ≡ twin (post_holiday l e)
     unfolding post_holiday holiday_checks holding with_holidays held_in told
     holiday_twin = settled_twin (verdict (holiday_checks l (day_named e))) (holding l (day_named e))
+
+    notice_twin : post_notice (told new l) e ≡ twin (post_notice l e)
+    unfolding post_notice notice_checks meets exchanged waiting account_at with_account told
+    notice_twin =
+        ap (λ (next : Ledger). settle (told new l) (verdict (notice_checks l e)) next) (told_cond (meets l e) (exchanged l e) (waiting l e))
+        ∙ settled_twin (verdict (notice_checks l e)) (cond (meets l e) (exchanged l e) (waiting l e))
 
     checks_twin : closing_checks (told new l) e ≡ closing_checks l e
     unfolding closing_checks told held_in
@@ -201,22 +234,23 @@ module _ (l : Ledger) (new : Bool) where
           choose (eqb e.kind 1) (post_terms l e) _ terms_twin
           (choose (eqb e.kind 4) (post_transfer l e) _ transfer_twin
           (choose (eqb e.kind 8) (post_closing l e) _ closing_twin
-          (choose (eqb e.kind 9) (post_closing l e) _ closing_twin (choose (eqb e.kind 11) (post_holiday l e) (refused l 2) holiday_twin (refused_twin 2)))))
+          (choose (eqb e.kind 9) (post_closing l e) _ closing_twin
+          (choose (eqb e.kind 11) (post_holiday l e) _ holiday_twin (choose (eqb e.kind 12) (post_notice l e) (refused l 2) notice_twin (refused_twin 2))))))
 
       kind_twin : post_kind (told new l) e ≡ twin (post_kind l e)
       unfolding post_kind account_at told
       kind_twin = choose (eqb (kind_of e.kind).accounts 1) (stored l e.a (change_of l.terms (account_at l e.a) e)) (post_several l e) (stored_twin (change_of l.terms (account_at l e.a) e)) several_twin
 
-      entry_twin : (OnlyNew e.kind → ⊥) → post_entry (told new l) e ≡ twin (post_entry l e)
+      entry_twin : (OnlyNew e.kind → ⊥) → retired true e ≡ false → post_entry (told new l) e ≡ twin (post_entry l e)
       unfolding post_entry
-      entry_twin c =
-          ap (λ (n : ℕ). cond (eqb n 0) (post_kind (told new l) e) (refused (told new l) n)) (admission_twin e c)
+      entry_twin c r =
+          ap (λ (n : ℕ). cond (eqb n 0) (post_kind (told new l) e) (refused (told new l) n)) (admission_twin e c r)
           ∙ choose (eqb (admission l e) 0) (post_kind l e) (refused l (admission l e)) kind_twin (refused_twin (admission l e))
 
 pub alike_otherwise : AlikeOtherwise
 unfolding posted
-alike_otherwise l new b d c =
-    choose l new (eqb (length b) 32) (post_entry l (entry_of b)) (refused l 1) (entry_twin l new (entry_of b) d c) (refused_twin l new 1)
+alike_otherwise l new b d c r =
+    choose l new (eqb (length b) 32) (post_entry l (entry_of b)) (refused l 1) (entry_twin l new (entry_of b) d c r) (refused_twin l new 1)
 
 -- ---- the number of a month's closing
 
@@ -248,7 +282,7 @@ module _ (l : Ledger) (new : Bool) (b : List ℕ) (nine : (entry_of b).kind ≡ 
   entry_alike : (post_entry (told new l) e).answer.number ≡ (post_entry l e).answer.number
   unfolding post_entry
   entry_alike =
-      ap (λ (n : ℕ). (cond (eqb n 0) (post_kind (told new l) e) (refused (told new l) n)).answer.number) (admission_twin l new e (nine_is_old e.kind nine))
+      ap (λ (n : ℕ). (cond (eqb n 0) (post_kind (told new l) e) (refused (told new l) n)).answer.number) (admission_twin l new e (nine_is_old e.kind nine) (nine_stays e nine))
       ∙ go (eqb (admission l e) 0) (admission l e)
     where
       go : (t : Bool) (n : ℕ) → (cond t (post_kind (told new l) e) (refused (told new l) n)).answer.number ≡ (cond t (post_kind l e) (refused l n)).answer.number
@@ -264,14 +298,14 @@ module _ (l : Ledger) (new : Bool) (b : List ℕ) (nine : (entry_of b).kind ≡ 
       go false = refused_number (told new l) 1 ∙ sym (refused_number l 1)
 
 pub accepts_alike : AcceptsAlike
-accepts_alike l new b c = go (eqb (entry_of b).kind 9) refl
+accepts_alike l new b c r = go (eqb (entry_of b).kind 9) refl
   where
     go : (t : Bool) → eqb (entry_of b).kind 9 ≡ t → (posted (told new l) b).answer.number ≡ (posted l b).answer.number
     go true z = month_alike l new b (eqb-true (entry_of b).kind 9 z)
-    go false z = ap (λ (p : Posted). p.answer.number) (alike_otherwise l new b (eqb-false (entry_of b).kind 9 z) c)
+    go false z = ap (λ (p : Posted). p.answer.number) (alike_otherwise l new b (eqb-false (entry_of b).kind 9 z) c r)
 
 pub reports_alike : ReportsAlike
 unfolding told account_at
 reports_alike l new b i z nine =
-    let y : (posted (told new l) b).answer.number ≡ 0 = accepts_alike l new b (nine_is_old (entry_of b).kind nine) ∙ z in
+    let y : (posted (told new l) b).answer.number ≡ 0 = accepts_alike l new b (nine_is_old (entry_of b).kind nine) (nine_stays (entry_of b) nine) ∙ z in
     rw (month_reported l b i z nine, month_reported (told new l) b i y nine) (same_report l.is_new new l.terms (entry_of b) (account_at l i))

@@ -10,11 +10,11 @@ use Rattle.tariff.specs.Amounts.{size, size_mills}
 use Rattle.tariff.specs.Dates.{real}
 use Rattle.tariff.specs.Holidays.{holidays_in_range}
 use Rattle.tariff.specs.Terms.{terms_in_range}
-use Rattle.ledger.specs.Structs.{Account, Ledger, Totals}
+use Rattle.ledger.specs.Structs.{Account, Ledger, Notice, Totals}
 use Rattle.tariff.proofs.Bools.{and_left, and_right, parts}
 use Rattle.tariff.proofs.Laws.{within_size, within_mills_size}
-use Rattle.ledger.specs.State.{nobody, account_at}
-use Rattle.ledger.specs.Ranges.{totals_in_range, step_in_range, account_in_range, every_account, in_range}
+use Rattle.ledger.specs.State.{nobody, account_at, with_notice, with_today}
+use Rattle.ledger.specs.Ranges.{totals_in_range, step_in_range, notice_in_range, account_in_range, every_account, in_range}
 use Rattle.ledger.proofs.Lists.{every_at}
 
 pub record TotalsBounded (m : Totals) : Type 0 where
@@ -64,6 +64,11 @@ bounded a h =
       owed = within_mills_size 1000000000000000 a.owed (search parts depth 9);
       days = leb-true a.violation_days 40000 (search parts depth 9);
     }
+
+-- another notice that is in range leaves the account so
+pub noticed_ranged : (a : Account) (n : Notice) → account_in_range a ≡ true → notice_in_range n ≡ true → account_in_range (with_notice a n) ≡ true
+unfolding account_in_range with_notice with_today
+noticed_ranged a n h g = rw (and_left _ (notice_in_range a.today.notice) h) g
 
 -- one by one, for what finds a bound by itself
 module _ (a : Account) (h : account_in_range a ≡ true) where

@@ -1,7 +1,7 @@
 -- What a closing makes of an account is what it reports of it.
 use Prim.Native.Nat.{ℕ, ◌+◌}
 use mathlib.Core.Path.{◌≡◌, refl, sym, ap, ◌∙◌}
-use mathlib.Core.Bool.{Bool, true, false, cond, false≢true}
+use mathlib.Core.Bool.{Bool, true, false, cond, ◌||◌, false≢true}
 use mathlib.Core.List.{map}
 use lib.Dec.{eqb}
 use lib.IntN.{ℤ, pos, neg_ℤ, ◌+ℤ◌, ◌-ℤ◌, +ℤ_idr, +ℤ_assoc}
@@ -11,7 +11,8 @@ use Rattle.ledger.specs.Structs.{Account, Closed, Entry, Ledger, Quantity, Repor
 use Rattle.tariff.proofs.Bools.{either}
 use Rattle.tariff.proofs.Laws.{sum_value, less_value, added_value, in_and_out, inward_zero, outward_zero}
 use Rattle.ledger.specs.Entries.{prices_of}
-use Rattle.ledger.specs.State.{nobody, account_at, with_bank, with_capacity, with_carry, with_days, with_excuse, with_measure, with_month, with_today, with_totals}
+use Rattle.ledger.specs.Kinds.{lookup}
+use Rattle.ledger.specs.State.{nobody, no_notice, no_today, account_at, with_bank, with_capacity, with_carry, with_days, with_excuse, with_measure, with_month, with_today, with_totals}
 use Rattle.ledger.specs.Answers.{quiet}
 use Rattle.ledger.specs.Closing.{violations_of, cash_at, day_end, after_day, forfeit_at, bill_at, month_end, after_month, day_closing, month_closing, left_alone, closing_of, after_closing, report_of}
 use Rattle.ledger.specs.Closings.{closed}
@@ -129,6 +130,29 @@ module _ (new : Bool) (t : Terms) (e : Entry) (a : Account) where
       either (Accounted a) a.opened _ _
       (λ o. each (Accounted a) e.kind (left_alone a) ((λ _. of_day o) then (λ _. of_month o) then done) of_none)
       (λ _. of_none)
+
+  -- a letter is gone with its day, if the account is open
+  pub closed_letter : eqb e.kind 8 || eqb e.kind 9 ≡ true → (closing_of new t e a).account.today.notice ≡ cond a.opened no_notice a.today.notice
+  unfolding closing_of lookup left_alone day_closing month_closing after_month month_end with_carry with_capacity with_measure after_day day_end no_today with_today with_days with_excuse with_totals with_month with_bank
+  closed_letter closes = go a.opened (eqb e.kind 8) (eqb e.kind 9) closes
+    where
+      go : (open' day month : Bool) → day || month ≡ true
+          → (cond open' (cond day (day_closing e.date a) (cond month (month_closing new e.date t (prices_of e) a) (left_alone a))) (left_alone a)).account.today.notice ≡ cond open' no_notice a.today.notice
+      go true true month h = refl
+      go true false true h = refl
+      go true false false h = absurd (false≢true h)
+      go false day month h = refl
+
+  pub closed_opened : (closing_of new t e a).account.opened ≡ a.opened
+  unfolding closing_of lookup left_alone day_closing month_closing after_month month_end with_carry with_capacity with_measure after_day day_end with_today with_days with_excuse with_totals with_month with_bank
+  closed_opened = go a.opened (eqb e.kind 8) (eqb e.kind 9)
+    where
+      go : (open' day month : Bool)
+          → (cond open' (cond day (day_closing e.date a) (cond month (month_closing new e.date t (prices_of e) a) (left_alone a))) (left_alone a)).account.opened ≡ a.opened
+      go true true month = refl
+      go true false true = refl
+      go true false false = refl
+      go false day month = refl
 
 -- ---- an account of the closed ledger, and what was reported of it
 

@@ -22,6 +22,7 @@ use Rattle.ledger.specs.Usage.{usage}
 use Rattle.ledger.specs.Confiscated.{confiscation}
 use Rattle.ledger.specs.Closings.{post_closing, closing_checks, closed}
 use Rattle.ledger.specs.Holiday.{post_holiday}
+use Rattle.ledger.specs.Notice.{post_notice}
 use Rattle.ledger.specs.Posting.{admission, post_several, change_of, stored, post_kind, post_entry, posted}
 use Rattle.ledger.specs.Structs.{Account, Change, Entry, Ledger}
 use Rattle.ledger.proofs.RightEntries.{a_fits}
@@ -30,6 +31,7 @@ use Rattle.ledger.proofs.KindCases.{done, ◌then◌, each}
 use Rattle.ledger.proofs.OneStep.{Sound, Step, step_refused, step_settle}
 use Rattle.ledger.proofs.StepKinds.{takes_terms, takes_enrol, takes_deliver, takes_transfer, takes_trade, takes_measure, takes_usage, takes_confiscated, takes_holiday}
 use Rattle.ledger.proofs.StepClosing.{step_closed}
+use Rattle.ledger.proofs.StepNotice.{takes_notice}
 
 module _ (l : Ledger) (b : List ℕ) (s : Sound l) where
   abbrev e : Entry
@@ -44,7 +46,7 @@ module _ (l : Ledger) (b : List ℕ) (s : Sound l) where
 
   -- a line for each kind of no account or of two
   step_several : admission l e ≡ 0 → Step l b (post_several l e)
-  unfolding post_several post_terms post_transfer post_holiday
+  unfolding post_several post_terms post_transfer post_holiday post_notice
   step_several h =
       each (Step l b) e.kind (refused l 2)
       ((λ is. step_settle l b _ _ (takes_terms l e s h is))
@@ -52,6 +54,7 @@ module _ (l : Ledger) (b : List ℕ) (s : Sound l) where
       then (λ is. step_closing h (omega arith) (omega arith))
       then (λ is. step_closing h (omega arith) (omega arith))
       then (λ is. step_settle l b _ _ (takes_holiday l e s h is))
+      then (λ is. step_settle l b _ _ (takes_notice l e s h is))
       then done)
       (step_refused l b 2 refl)
 

@@ -6,8 +6,9 @@ use lib.IntN.{pos}
 use lib.ListN.{get_or, replicate}
 use Rattle.tariff.proofs.BusinessDays.{none_ranged}
 use Rattle.tariff.proofs.Laws.{within_zero, within_mills_zero}
-use Rattle.ledger.specs.State.{no_month, no_today, no_totals, nobody, fresh, account_at}
-use Rattle.ledger.specs.Ranges.{totals_in_range, step_in_range, account_in_range, every_account, in_range}
+use Rattle.ledger.specs.Structs.{Account}
+use Rattle.ledger.specs.State.{no_month, no_notice, no_today, no_totals, nobody, fresh, account_at}
+use Rattle.ledger.specs.Ranges.{totals_in_range, step_in_range, notice_in_range, account_in_range, every_account, in_range}
 use Rattle.ledger.specs.Panel.{open_bank, bank_of}
 use Rattle.ledger.proofs.ClosedAccounts.{open_owed, open_days}
 use Rattle.ledger.proofs.OneStep.{Sound}
@@ -22,7 +23,7 @@ fresh_account new i = same 16 i
     same (suc n) (suc i) = same n i
 
 nobody_ranged : account_in_range nobody ≡ true
-unfolding account_in_range totals_in_range step_in_range nobody no_month no_today no_totals
+unfolding account_in_range totals_in_range step_in_range notice_in_range nobody no_month no_today no_totals
 nobody_ranged =
     rw (
       within_zero 1000000000 100000000000 nobody.bank refl,
@@ -50,3 +51,11 @@ module _ (new : Bool) (i : ℕ) where
   pub fresh_days : open_days (account_at (fresh new) i) ≡ pos 0
   unfolding nobody
   fresh_days = ap open_days (fresh_account new i)
+
+  pub fresh_notice : (account_at (fresh new) i).today.notice ≡ no_notice
+  unfolding nobody no_today
+  fresh_notice = ap (λ (a : Account). a.today.notice) (fresh_account new i)
+
+  pub fresh_shut : (account_at (fresh new) i).opened ≡ false
+  unfolding nobody
+  fresh_shut = ap (λ (a : Account). a.opened) (fresh_account new i)

@@ -38,3 +38,4 @@ is_terms kind.CloseDay = refl
 is_terms kind.CloseMonth = refl
 is_terms kind.Confiscated = refl
 is_terms kind.Holiday = refl
+is_terms kind.Notice = refl

@@ -9,6 +9,7 @@ pub mod RightEntries
 pub mod Admissions
 pub mod OneAccount
 pub mod TwoAccounts
+pub mod Exchanges
 pub mod Banks
 pub mod ClosedSoFar
 pub mod ClosedAccounts
@@ -17,13 +18,18 @@ pub mod NamedDays
 pub mod Moving
 pub mod StepKinds
 pub mod StepClosing
+pub mod StepNotice
 pub mod EveryPosting
 pub mod Runs
 pub mod Measured
 pub mod FreshLedger
 pub mod Figures
+pub mod Counterparts
 pub mod Fields
 pub mod Transfers
+pub mod TwoLetters
+pub mod PairOfLetters
 pub mod OldKinds
 pub mod OldLedgers
 pub mod AlikeLedgers
+pub mod Retired

@@ -17,12 +17,13 @@ use Rattle.ledger.specs.Answers.{plain, refused, settle}
 use Rattle.ledger.specs.Checks.{Check, verdict}
 use Rattle.ledger.specs.Closing.{ready, stays_in_range}
 use Rattle.ledger.specs.Closings.{closed, closing_checks, holidays_after, post_closing}
-use Rattle.ledger.specs.Days.{wrong_day}
+use Rattle.ledger.specs.Days.{retired, wrong_day}
 use Rattle.ledger.specs.Entries.{day_named, entry_of}
 use Rattle.ledger.specs.Forms.{entry_checks}
 use Rattle.ledger.specs.Holiday.{holding, holiday_checks, post_holiday}
 use Rattle.ledger.specs.Kinds.{kind_of, lookup}
 use Rattle.ledger.specs.Measuring.{DropsPassed, EveryMonthMeasured, HolidayAccepted, HoldsIt, KeepsOrder, MovesMeasuring, SameToday, StaysInRange, StoredAnew}
+use Rattle.ledger.specs.Notice.{meets, notice_checks, post_notice}
 use Rattle.ledger.specs.Posting.{admission, post_entry, post_kind, post_several, posted, standing_checks, stored}
 use Rattle.ledger.specs.Ranges.{every_account, in_range}
 use Rattle.ledger.specs.State.{account_at, fresh, held_in, with_holidays}
@@ -158,11 +159,11 @@ either_answer true x y u v f g = f refl
 either_answer false x y u v f g = g refl
 
 -- 23 is not asked where 22 is given
-day_by_day : (xs : List Check) (b₂₁ other w v : Bool) → (other ≡ false → w ≡ v)
-    → verdict (xs ++ ((false, 20) ∷ (b₂₁, 21) ∷ (other, 22) ∷ (w, 23) ∷ [])) ≡ verdict (xs ++ ((false, 20) ∷ (b₂₁, 21) ∷ (other, 22) ∷ (v, 23) ∷ []))
+day_by_day : (xs : List Check) (b₂₁ other gone w v : Bool) → (other ≡ false → w ≡ v)
+    → verdict (xs ++ ((false, 20) ∷ (b₂₁, 21) ∷ (other, 22) ∷ (gone, 36) ∷ (w, 23) ∷ [])) ≡ verdict (xs ++ ((false, 20) ∷ (b₂₁, 21) ∷ (other, 22) ∷ (gone, 36) ∷ (v, 23) ∷ []))
 unfolding verdict
-day_by_day xs b₂₁ true w v f = verdict_tail xs _ _ refl
-day_by_day xs b₂₁ false w v f = rw (f refl)
+day_by_day xs b₂₁ true gone w v f = verdict_tail xs _ _ refl
+day_by_day xs b₂₁ false gone w v f = rw (f refl)
 
 module _ (l : Ledger) (d : Date) (r : in_range l ≡ true) (o : verdict (holiday_checks l d) ≡ 0) (begun : l.begun ≡ true) where
   abbrev next : Ledger
@@ -183,7 +184,7 @@ module _ (l : Ledger) (d : Date) (r : in_range l ≡ true) (o : verdict (holiday
     same_admission =
         rw (holding_ranged l d o r, r)
         (unfold holding with_holidays in
-        (day_by_day (entry_checks l.is_new e) (not l.begun && not (eqb e.kind 1)) (l.begun && not (same_date e.date l.date)) _ _
+        (day_by_day (entry_checks l.is_new e) (not l.begun && not (eqb e.kind 1)) (l.begun && not (same_date e.date l.date)) (retired l.is_new e) _ _
         (λ z. same_wrong (not-false (same_date e.date l.date) (rw begun at z)))))
 
     -- ---- past admission
@@ -206,12 +207,18 @@ module _ (l : Ledger) (d : Date) (r : in_range l ≡ true) (o : verdict (holiday
       unfolding post_transfer transfer_checks giver receiver account_at settle holding with_holidays
       same_transfer = refl
 
+      same_notice : (post_notice (holding l d) e).answer ≡ (post_notice l e).answer
+      unfolding post_notice notice_checks meets account_at settle holding with_holidays
+      same_notice = refl
+
       same_several : (e.kind ≡ 11 → ⊥) → (post_several (holding l d) e).answer ≡ (post_several l e).answer
       unfolding post_several lookup
       same_several no_holiday =
           rw (ne_eqb e.kind 1 no_terms, ne_eqb e.kind 11 no_holiday)
           (either_answer (eqb e.kind 4) _ _ _ _ (λ _. same_transfer)
-          (λ _. either_answer (eqb e.kind 8) _ _ _ _ (λ _. same_closing) (λ _. either_answer (eqb e.kind 9) (post_closing (holding l d) e) (refused (holding l d) 2) (post_closing l e) (refused l 2) (λ _. same_closing) (λ _. unfold refused in refl))))
+          (λ _. either_answer (eqb e.kind 8) _ _ _ _ (λ _. same_closing)
+          (λ _. either_answer (eqb e.kind 9) _ _ _ _ (λ _. same_closing)
+          (λ _. either_answer (eqb e.kind 12) (post_notice (holding l d) e) (refused (holding l d) 2) (post_notice l e) (refused l 2) (λ _. same_notice) (λ _. unfold refused in refl)))))
 
       same_kind : (e.kind ≡ 11 → ⊥) → (post_kind (holding l d) e).answer ≡ (post_kind l e).answer
       unfolding post_kind

@@ -19,6 +19,8 @@ pub record Moved (a : Account) (y : ℤ) (c : Change) : Type 0 where
   pub bank : a.opened ≡ true → open_bank c.account ≡ open_bank a +ℤ y
   pub debt : open_owed c.account ≡ open_owed a
   pub days : open_days c.account ≡ open_days a
+  pub letter : c.account.today.notice ≡ a.today.notice
+  pub opened : c.account.opened ≡ a.opened
 
 module _ (m : Month) (a : Account) (q : Quantity) where
   pub gives : Moved a (neg_ℤ (pos q.0)) (giving m a q)
@@ -29,6 +31,8 @@ module _ (m : Month) (a : Account) (q : Quantity) where
         bank = λ o. grows a.opened (less a.bank q).0 a.bank.0 (neg_ℤ (pos q.0)) o (less_value a.bank q);
         debt = refl;
         days = refl;
+        letter = refl;
+        opened = refl;
       }
 
   pub takes : Moved a (pos q.0) (taking m a q)
@@ -39,4 +43,6 @@ module _ (m : Month) (a : Account) (q : Quantity) where
         bank = λ o. grows a.opened (more a.bank q).0 a.bank.0 (pos q.0) o (more_value a.bank q);
         debt = refl;
         days = refl;
+        letter = refl;
+        opened = refl;
       }

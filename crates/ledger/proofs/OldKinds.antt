@@ -40,6 +40,7 @@ module _ (kind : ℕ) (h : is_old_kind kind ≡ false) where
       then (λ is. absurd (isnt 9 (omega arith) (omega arith) is))
       then (λ _. refl)
       then (λ _. refl)
+      then (λ _. refl)
       then done)
       refl
 

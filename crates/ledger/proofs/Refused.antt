@@ -18,6 +18,7 @@ refuses refusal.WrongTransfer = refl
 refuses refusal.LedgerOutOfRange = refl
 refuses refusal.NotBegun = refl
 refuses refusal.OtherDay = refl
+refuses refusal.Retired = refl
 refuses refusal.WrongDay = refl
 refuses refusal.NotOpen = refl
 refuses refusal.StaysOnFbs = refl

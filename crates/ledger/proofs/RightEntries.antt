@@ -1,9 +1,9 @@
 -- An entry's number is 0 only where each of its checks found nothing wrong: what that tells, kind by kind.
 use Prim.Native.Nat.{ℕ, ◌≤◌, ◌<◌}
 use mathlib.Core.Path.{◌≡◌, refl}
-use mathlib.Core.Bool.{true, false, not, ◌&&◌}
-use lib.Dec.{leb, eqb}
-use borrow.Author.Tests.{leb-true, leb-false, le-leb, eqb-false, eq-eqb, not-false}
+use mathlib.Core.Bool.{true, false, not, ◌&&◌, ◌||◌}
+use lib.Dec.{leb, eqb, ltb}
+use borrow.Author.Tests.{ltb-false, leb-true, leb-false, le-leb, eqb-false, eq-eqb, not-false}
 use Rattle.tariff.specs.Dates.{real}
 use Rattle.tariff.specs.Terms.{terms_in_range}
 use Rattle.tariff.specs.Bill.{prices_in_range}
@@ -11,7 +11,7 @@ use Rattle.tariff.proofs.Bools.{and_left, and_right, or_left, or_right, parts}
 use Rattle.ledger.specs.Kinds as kinds
 use Rattle.ledger.specs.Kinds.{lookup, kind_of}
 use Rattle.ledger.specs.Entries.{terms_of, prices_of}
-use Rattle.ledger.specs.Forms.{account_too_high, some_units, words_in_range, wrong_transfer, field_checks, field_number}
+use Rattle.ledger.specs.Forms.{account_too_high, unused_set, some_units, words_in_range, wrong_transfer, field_checks, field_number}
 use Rattle.ledger.specs.Structs.{Entry}
 use Rattle.ledger.proofs.Verdicts.{clear}
 
@@ -23,6 +23,14 @@ module _ (e : Entry) (h : field_number e ≡ 0) where
   accounts_fit : account_too_high (kind_of e.kind) e ≡ false
   unfolding field_number field_checks
   accounts_fit = clear _ refl h 1
+
+  pub flags_fit : e.flags ≤ (kind_of e.kind).flags
+  unfolding field_number field_checks unused_set
+  flags_fit =
+      let u : (ltb (kind_of e.kind).accounts 1 && not (eqb e.a 0)) || (ltb (kind_of e.kind).accounts 2 && not (eqb e.b 0)) || ltb (kind_of e.kind).flags e.flags
+      || (ltb (kind_of e.kind).words 1 && not (eqb e.w1 0)) || (ltb (kind_of e.kind).words 2 && not (eqb e.w2 0)) || (ltb (kind_of e.kind).words 3 && not (eqb e.w3 0))
+      || (ltb (kind_of e.kind).words 4 && not (eqb e.w4 0)) || (ltb (kind_of e.kind).words 5 && not (eqb e.w5 0)) || (ltb (kind_of e.kind).words 6 && not (eqb e.w6 0)) ≡ false = clear _ refl h 2 in
+      ltb-false (kind_of e.kind).flags e.flags (search (or_left, or_right) depth 9)
 
   words_fit : words_in_range e ≡ true
   unfolding field_number field_checks
@@ -70,7 +78,18 @@ module _ (e : Entry) (h : field_number e ≡ 0) where
   unfolding wrong_transfer
   transfer_fits k = (
     units_fit e.w1 (transfer_units k),
-    eqb-false e.a e.b (or_left (eqb e.a e.b) (not (eqb e.w1 e.w2)) (rw (eq-eqb e.kind 4 k) at right_transfer)),
+    eqb-false e.a e.b (or_left (eqb e.a e.b) (not (eqb e.w1 e.w2)) (or_left (eqb e.a e.b || not (eqb e.w1 e.w2)) (eqb e.kind 12 && eqb e.a e.b) (rw (eq-eqb e.kind 4 k) at right_transfer))),
+  )
+
+  pub notice_units : e.kind ≡ kinds.NOTICE → some_units e.w1 ≡ true
+  unfolding words_in_range lookup
+  notice_units k = rw k at words_fit
+
+  pub notice_fits : e.kind ≡ kinds.NOTICE → (e.w1 ≤ 1000000000) × (e.a ≡ e.b → ⊥)
+  unfolding wrong_transfer
+  notice_fits k = (
+    units_fit e.w1 (notice_units k),
+    eqb-false e.a e.b (or_right (eqb e.kind 4 && (eqb e.a e.b || not (eqb e.w1 e.w2))) (eqb e.a e.b) (rw (eq-eqb e.kind 12 k) at right_transfer)),
   )
 
   pub trade_fits : e.kind ≡ kinds.TRADE → e.w1 ≤ 1000000000

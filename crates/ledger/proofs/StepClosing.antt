@@ -28,7 +28,7 @@ use Rattle.ledger.specs.Panel.{open_bank, bank_of}
 use Rattle.ledger.proofs.Verdicts.{clear}
 use Rattle.ledger.proofs.Bounded.{begun_ranged, ranged_parts, ranged_whole}
 use Rattle.ledger.proofs.Admissions.{is_begun, is_day, is_real_lem}
-use Rattle.ledger.proofs.ClosedAccounts.{open_owed, open_days, report_moves, report_days, accounted, account_closed, account_reported}
+use Rattle.ledger.proofs.ClosedAccounts.{open_owed, open_days, report_moves, report_days, accounted, account_closed, account_reported, closed_letter, closed_opened}
 use Rattle.ledger.proofs.OneStep.{Sound, Taken, Step, gain_at, report_at}
 
 both : (a b : Bool) → a ≡ true → b ≡ true → a && b ≡ true
@@ -119,6 +119,13 @@ module _ (l : Ledger) (e : Entry) (s : Sound l) (h : admission l e ≡ 0) (c : 8
         retainage = keeps_rate ∙ sym (rw (isnt 1 (omega arith)));
         started = λ _. begun;
         parties = λ z. absurd (omega (arith, z));
+        letters =
+            record {
+              notices = λ i. ap (λ (a : Account). a.today.notice) (after_is i) ∙ closed_letter l.is_new l.terms e (account_at l i) is_closing ∙ sym (rw (isnt 2 (omega arith), is_closing));
+              opens = λ i. ap (λ (a : Account). a.opened) (after_is i) ∙ closed_opened l.is_new l.terms e (account_at l i) ∙ sym (rw (isnt 2 (omega arith)));
+              enrols = λ z. absurd (omega (arith, z));
+              asked = λ z. absurd (omega (arith, z));
+            };
       }
 
 module _ (l : Ledger) (b : List ℕ) (s : Sound l) (h : admission l (entry_of b) ≡ 0) (c : 8 ≤ (entry_of b).kind) (d : (entry_of b).kind ≤ 9) where

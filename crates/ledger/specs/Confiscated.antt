@@ -8,7 +8,7 @@ use Rattle.ledger.specs.Ranges.{account_in_range}
 -- R85: the amount waits for the closing. That one was told is a mark of its own, as 0 may be told.
 unfoldable pub confiscated_today : Today → Quantity → Today
 confiscated_today d amount =
-    record { delivered = d.delivered; v1 = d.v1; v2 = d.v2; confiscated = true; confiscation = amount }
+    record { delivered = d.delivered; v1 = d.v1; v2 = d.v2; confiscated = true; confiscation = amount; notice = d.notice }
 
 -- R85: the account after an entry's amount is on record; no gas moves.
 unfoldable pub after_confiscation : Account → Entry → Account

@@ -4,7 +4,7 @@ use Rattle.ledger.specs.Structs.{Account, Ledger, Today}
 use Rattle.tariff.specs.Holidays.{stored_dates}
 use Rattle.tariff.specs.Terms.{terms_from}
 use Rattle.ledger.specs.Answers.{quiet}
-use Rattle.ledger.specs.State.{account, account_at, ledger, no_totals, no_today, nobody, with_measure, with_today}
+use Rattle.ledger.specs.State.{account, account_at, ledger, no_notice, no_totals, no_today, nobody, with_measure, with_today}
 use Rattle.ledger.specs.Posting.{posted}
 use Rattle.ledger.specs.Panel.{bank_of}
 use Rattle.ledger.specs.Running.{run}
@@ -22,7 +22,7 @@ supplier bank metered today =
 
 -- R35: a day that has its delivery, and an amount on record or none.
 abbrev pub delivered : Bool → ℕ → Today
-delivered told amount = record { delivered = true; v1 = false; v2 = false; confiscated = told; confiscation = record { 0 = amount } }
+delivered told amount = record { delivered = true; v1 = false; v2 = false; confiscated = told; confiscation = record { 0 = amount }; notice = no_notice }
 
 -- R67: the ledger, old or new, under the terms of all examples; the other fifteen accounts are not open.
 abbrev pub on : Bool → ℕ → ℕ → Account → Ledger
@@ -125,7 +125,7 @@ pub record ConfiscatedCases : Type 0 where
   -- R84: no kind in an old ledger, and later kinds are none yet in a new one. R13: 6 above 10^9. R18: 20 if the amount on record is out of range.
   pub numbers :
       (number_after (january false) [] (confiscated 1 600) ≡ 2)
-      × (number_after (january true) [] (entry 12 0 1 31 600) ≡ 2)
       × (number_after (january true) [] (entry 13 0 1 31 600) ≡ 2)
+      × (number_after (january true) [] (entry 14 0 1 31 600) ≡ 2)
       × (number_after (january true) [] (confiscated 1 1000000001) ≡ 6)
       × (number_after (on false 1 31 (supplier 0 true (delivered false 1000000001))) [] (closing 1) ≡ 20)

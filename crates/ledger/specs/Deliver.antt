@@ -24,6 +24,7 @@ delivered_today m a amount back_cast =
       v2 = breaks_v2 (share_of a.bank a.capacity.bcq back_cast a.mdq) a.capacity.mddq amount;
       confiscated = a.today.confiscated;
       confiscation = a.today.confiscation;
+      notice = a.today.notice;
     }
 
 -- R35: bank and net move by the same amount.

@@ -1,5 +1,5 @@
 -- An entry: its bytes taken apart, and what its words and flags mean.
-use Rattle.std.specs.Prelude.{◌≡◌, ◌≢◌, ℕ, ◌+◌, ◌*◌, ◌%◌, Bool, eqb, leb, List, get_or, length, Result, MatchResult}
+use Rattle.std.specs.Prelude.{◌≡◌, ◌≢◌, ℕ, ◌+◌, ◌*◌, ◌%◌, Bool, eqb, leb, not, List, get_or, length, Result, MatchResult}
 use Rattle.ledger.specs.Structs.{Date, Entry, Prices, Terms}
 use Rattle.ledger.specs.declared.refusals.Refusal.{Refusal}
 use Rattle.ledger.specs.declared.refusals.Refusal.TheVariants as refusal
@@ -62,3 +62,7 @@ wishes e = leb 2 e.flags
 -- R14: a TRADE without a flag is a sale of the company, one with a flag a purchase.
 unfoldable pub company_sells : Entry → Bool
 company_sells e = eqb e.flags 0
+
+-- R108: the writer of a NOTICE without a flag gives gas, that of one with a flag takes it.
+unfoldable pub writer_takes : Entry → Bool
+writer_takes e = not (eqb e.flags 0)

@@ -45,12 +45,14 @@ words_in_range e =
     ∷ (kinds.CLOSE_MONTH, prices_in_range (prices_of e))
     ∷ (kinds.CONFISCATED, leb e.w1 most_units)
     ∷ (kinds.HOLIDAY, true)
+    ∷ (kinds.NOTICE, some_units e.w1)
     ∷ [])
     false
 
--- R15, number 7: giver and receiver are the same, or do not tell the same quantity.
+-- R15, number 7: giver and receiver of a TRANSFER are the same, or do not tell the same quantity; who writes a NOTICE is also who it names (R108).
 unfoldable pub wrong_transfer : Entry → Bool
-wrong_transfer e = eqb e.kind kinds.TRANSFER && (eqb e.a e.b || not (eqb e.w1 e.w2))
+wrong_transfer e =
+    (eqb e.kind kinds.TRANSFER && (eqb e.a e.b || not (eqb e.w1 e.w2))) || (eqb e.kind kinds.NOTICE && eqb e.a e.b)
 
 -- R15: numbers 3 to 7, of a kind that exists.
 unfoldable pub field_checks : Entry → List Check

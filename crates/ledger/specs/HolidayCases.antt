@@ -3,7 +3,7 @@ use Rattle.std.specs.Prelude.{ℕ, zero, suc, ◌+◌, ◌/◌, ◌%◌, pos, Bo
 use Rattle.ledger.specs.Structs.{Account, Date, Holidays, Ledger}
 use Rattle.tariff.specs.Holidays.{date_of, stored_dates}
 use Rattle.tariff.specs.Terms.{terms_from}
-use Rattle.ledger.specs.State.{account, held_in, ledger, no_totals, nobody}
+use Rattle.ledger.specs.State.{account, held_in, ledger, no_notice, no_totals, nobody}
 use Rattle.ledger.specs.Posting.{posted}
 use Rattle.ledger.specs.Running.{run}
 use Rattle.ledger.specs.Measuring.{measurement_day_in}
@@ -19,7 +19,8 @@ date year month day = date_of year (record { 0 = month }) day
 -- `measured` says whether its meters were read this month.
 abbrev pub supplier : Bool → Account
 supplier measured =
-    account true false (record { delivered = true; v1 = false; v2 = false; confiscated = false; confiscation = record { 0 = 0 } }) (record { 0 = pos 3125250 })
+    account true false (record { delivered = true; v1 = false; v2 = false; confiscated = false; confiscation = record { 0 = 0 }; notice = no_notice })
+    (record { 0 = pos 3125250 })
     (record { 0 = 4200 }) (record { k = 2; pending = 2; over = 0; under = 0 }) (record { mddq = record { 0 = 1500 }; bcq = record { 0 = 62505 } })
     (record { totals = no_totals; measured = measured; metered = true }) (record { 0 = 0 }) (record { 0 = pos 0 }) 0
 

@@ -6,7 +6,7 @@ use Rattle.ledger.specs.declared.kinds.Kind.TheVariants as kind
 use Rattle.ledger.specs.declared.refusals.Refusal.{Refusal}
 use Rattle.ledger.specs.declared.refusals.Refusal.TheVariants as refusal
 
--- R12, R85 and R102: the eleven kinds, by the number in an entry's first byte.
+-- R12, R85, R102 and R108: the twelve kinds, by the number in an entry's first byte.
 abbrev pub TERMS : ℕ
 TERMS = 1
 
@@ -39,6 +39,9 @@ CONFISCATED = 10
 
 abbrev pub HOLIDAY : ℕ
 HOLIDAY = 11
+
+abbrev pub NOTICE : ℕ
+NOTICE = 12
 
 -- R12: what a table has for a kind, or what holds of every kind that it does not name.
 unfoldable pub lookup : {A : Type 0} → ℕ → List (ℕ × A) → A → A
@@ -73,6 +76,7 @@ kind_of kind =
     ∷ (CLOSE_MONTH, row 0 0 4 1)
     ∷ (CONFISCATED, row 1 0 1 2)
     ∷ (HOLIDAY, row 0 0 3 2)
+    ∷ (NOTICE, row 2 1 1 2)
     ∷ [])
     (row 0 0 0 never)
 
@@ -89,6 +93,7 @@ code kind.CloseDay = CLOSE_DAY
 code kind.CloseMonth = CLOSE_MONTH
 code kind.Confiscated = CONFISCATED
 code kind.Holiday = HOLIDAY
+code kind.Notice = NOTICE
 
 -- R12 and R15: the kind that a number stands for; the number that is none's gets 2.
 abbrev pub Names : ℕ → Result Kind Refusal → Type 0

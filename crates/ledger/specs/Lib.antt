@@ -15,6 +15,7 @@ pub mod Enrol
 pub mod Deliver
 pub mod Gas
 pub mod Transfer
+pub mod Notice
 pub mod Trade
 pub mod Measure
 pub mod Usage
@@ -29,5 +30,7 @@ pub mod Running
 pub mod OldAndNew
 pub mod Measuring
 pub mod MarkedCases
+pub mod Letters
 pub mod ConfiscatedCases
 pub mod HolidayCases
+pub mod NoticeCases

@@ -19,19 +19,22 @@ use Rattle.ledger.specs.Usage.{usage}
 use Rattle.ledger.specs.Confiscated.{confiscation}
 use Rattle.ledger.specs.Closings.{post_closing}
 use Rattle.ledger.specs.Holiday.{post_holiday}
-use Rattle.ledger.specs.Days.{wrong_day}
+use Rattle.ledger.specs.Notice.{post_notice}
+use Rattle.ledger.specs.Days.{retired, wrong_day}
 
--- R22: 20 if the ledger is out of range, 21 if it has not begun and this is no TERMS, 22 if it has begun and is at another date.
+-- R22: 20 if the ledger is out of range, 21 if it has not begun and this is no TERMS, 22 if it has begun and is at another date, 36 if this is a
+-- TRANSFER and the ledger has letters alone by now (R112).
 -- 23 belongs to the kinds (R27, R30, R40, R42, R85) and is asked here as the first of their checks.
 unfoldable pub standing_checks : Ledger → Entry → List Check
 standing_checks l e =
     (not (in_range l), 20)
     ∷ (not l.begun && not (eqb e.kind kinds.TERMS), 21)
     ∷ (l.begun && not (same_date e.date l.date), 22)
+    ∷ (retired l.is_new e, 36)
     ∷ (wrong_day l.touched (held_in l) e, 23)
     ∷ []
 
--- R22: everything that is asked before the kind's own checks: 2 to 7, then 20 to 23.
+-- R22: everything that is asked before the kind's own checks: 2 to 7, then 20 to 22, 36 and 23.
 unfoldable pub admission : Ledger → Entry → ℕ
 admission l e = verdict (entry_checks l.is_new e ++ standing_checks l e)
 
@@ -44,6 +47,7 @@ post_several l e =
     ∷ (kinds.CLOSE_DAY, post_closing l e)
     ∷ (kinds.CLOSE_MONTH, post_closing l e)
     ∷ (kinds.HOLIDAY, post_holiday l e)
+    ∷ (kinds.NOTICE, post_notice l e)
     ∷ [])
     (refused l 2)
 

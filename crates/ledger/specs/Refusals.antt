@@ -16,6 +16,7 @@ number refusal.WrongTransfer = 7
 number refusal.LedgerOutOfRange = 20
 number refusal.NotBegun = 21
 number refusal.OtherDay = 22
+number refusal.Retired = 36
 number refusal.WrongDay = 23
 number refusal.NotOpen = 24
 number refusal.StaysOnFbs = 25

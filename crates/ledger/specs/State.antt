@@ -1,6 +1,6 @@
 -- What a ledger remembers between postings, and how one part of it is replaced.
 use Rattle.std.specs.Prelude.{ℕ, pos, Bool, true, false, List, [], get_or, set, replicate}
-use Rattle.ledger.specs.Structs.{Account, Capacity, Date, Dth, Holidays, Ledger, Mcf, Mills, Quantity, Step, Terms, ThisMonth, Today, Totals, Units}
+use Rattle.ledger.specs.Structs.{Account, Capacity, Date, Dth, Holidays, Ledger, Mcf, Mills, Notice, Quantity, Step, Terms, ThisMonth, Today, Totals, Units}
 use Rattle.tariff.specs.Terms.{terms_from}
 use Rattle.tariff.specs.Holidays.{held_dates, stored_dates}
 
@@ -39,9 +39,17 @@ unfoldable pub no_month : ThisMonth
 unfolding no_totals
 no_month = record { totals = no_totals; measured = false; metered = false }
 
--- R17: a day without its delivery, of which nothing confiscated was told (R85); each closing begins one (R19).
+-- R16: the notice that stands of an account: its side, whom it names, and how much gas.
+abbrev pub notice : Bool → Bool → ℕ → ℕ → Notice
+notice stands takes other units = record { stands = stands; takes = takes; other = other; units = record { 0 = units } }
+
+-- R17: none stands, and every member is 0.
+abbrev pub no_notice : Notice
+no_notice = notice false false 0 0
+
+-- R17: a day without its delivery, of which nothing confiscated was told (R85), and without a letter (R108); each closing begins one (R19).
 unfoldable pub no_today : Today
-no_today = record { delivered = false; v1 = false; v2 = false; confiscated = false; confiscation = record { 0 = 0 } }
+no_today = record { delivered = false; v1 = false; v2 = false; confiscated = false; confiscation = record { 0 = 0 }; notice = no_notice }
 
 -- R17: an account that is not open, every number 0 and every mark off.
 unfoldable pub nobody : Account
@@ -95,6 +103,19 @@ with_carry a carry owed = account a.opened a.excused a.today a.bank a.mdq a.step
 -- R16: the count of violation days.
 unfoldable pub with_days : Account → ℕ → Account
 with_days a days = account a.opened a.excused a.today a.bank a.mdq a.step a.capacity a.month a.carry a.owed days
+
+-- R16: the notice that stands, the rest of the day staying.
+unfoldable pub with_notice : Account → Notice → Account
+with_notice a n =
+    with_today a
+    (record {
+      delivered = a.today.delivered;
+      v1 = a.today.v1;
+      v2 = a.today.v2;
+      confiscated = a.today.confiscated;
+      confiscation = a.today.confiscation;
+      notice = n;
+    })
 
 -- R16: the month's numbers, its marks staying.
 unfoldable pub with_totals : Account → Totals → Account

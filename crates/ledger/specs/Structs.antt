@@ -23,5 +23,6 @@ pub use Rattle.ledger.specs.declared.kinds.Uses.{Uses}
 pub use Rattle.ledger.specs.declared.panels.Panel.{Panel}
 pub use Rattle.ledger.specs.declared.state.Account.{Account}
 pub use Rattle.ledger.specs.declared.state.Ledger.{Ledger}
+pub use Rattle.ledger.specs.declared.state.Notice.{Notice}
 pub use Rattle.ledger.specs.declared.state.ThisMonth.{ThisMonth}
 pub use Rattle.ledger.specs.declared.state.Today.{Today}

@@ -2,7 +2,7 @@
 ghost use Rattle.std.specs.Prelude.{◌≡◌};
 ghost use Rattle.tariff.specs.Holidays.{held_dates};
 ghost use Rattle.ledger.specs.Admitted.{Admits, Judges};
-ghost use Rattle.ledger.specs.Days.{wrong_day};
+ghost use Rattle.ledger.specs.Days.{retired, wrong_day};
 ghost use Rattle.ledger.specs.Posting.{admission};
 
 use crate::admitted::Admitted;
@@ -11,7 +11,9 @@ use crate::forms::check;
 use crate::kinds::Kind;
 use crate::refusals::Refusal;
 use crate::state::Ledger;
+use tariff::dates::Date;
 use tariff::holidays::Holidays;
+use tariff::months::Month;
 
 // Number 23.
 #[tactic(auto, unfolding(crate::specs::Days::wrong_day, crate::specs::Kinds::lookup, crate::specs::Kinds::code))]
@@ -26,7 +28,24 @@ fn wrong_day(touched: bool, held: &Holidays, e: Admitted) -> bool
         Kind::CloseDay => e.date().last_of_month() | date.last_date(),
         Kind::CloseMonth => !e.date().last_of_month() | date.last_date(),
         Kind::Confiscated => !date.on_confiscation_day(),
-        Kind::Deliver | Kind::Transfer | Kind::Trade | Kind::Usage | Kind::Holiday => false,
+        Kind::Deliver | Kind::Transfer | Kind::Trade | Kind::Usage | Kind::Holiday | Kind::Notice =>
+            false,
+    }
+}
+
+// Number 36.
+#[tactic(auto, unfolding(crate::specs::Days::retired, crate::specs::Kinds::code))]
+fn retired(is_new: bool, e: Admitted) -> bool
+    ensures { result ≡ retired is_new e.entry }
+{
+    let letters_alone = Date {
+        year: 2027,
+        month: Month::APRIL,
+        day: 1,
+    };
+    match e.kind {
+        Kind::Transfer => is_new & !(e.entry.date < letters_alone),
+        _ => false,
     }
 }
 
@@ -44,6 +63,9 @@ pub fn admission(ledger: &Ledger, entry: Entry) -> Result<Admitted, Refusal>
     }
     if ledger.begun & !(entry.date == ledger.date) {
         return Err(Refusal::OtherDay);
+    }
+    if retired(ledger.is_new, e) {
+        return Err(Refusal::Retired);
     }
     if wrong_day(ledger.touched, &ledger.holidays, e) {
         return Err(Refusal::WrongDay);

@@ -1,6 +1,6 @@
 // An entry of 32 bytes, taken apart, and what its words and flags mean.
 ghost use Rattle.std.specs.Prelude.{◌≡◌, ◌+◌, ◌≤◌};
-ghost use Rattle.ledger.specs.Entries.{word_at, entry_of, Reads, terms_of, prices_of, day_named, process_only, wishes, company_sells};
+ghost use Rattle.ledger.specs.Entries.{word_at, entry_of, Reads, terms_of, prices_of, day_named, process_only, wishes, company_sells, writer_takes};
 
 use crate::refusals::Refusal;
 use tariff::amounts::Dth;
@@ -145,5 +145,12 @@ impl Entry {
         ensures { result ≡ company_sells self }
     {
         self.flags == 0
+    }
+
+    #[tactic(auto, unfolding(crate::specs::Entries::writer_takes))]
+    pub fn writer_takes(self) -> bool
+        ensures { result ≡ writer_takes self }
+    {
+        self.flags != 0
     }
 }

@@ -53,7 +53,7 @@ fn words_in_range(kind: Kind, e: Entry) -> bool
         Kind::Enrol => (e.w1 <= MOST_MDQ) & (e.w2 <= MOST_UNITS),
         Kind::Deliver => (e.w1 <= MOST_UNITS) & (e.w2 <= MOST_UNITS),
         Kind::Transfer => some_units(e.w1) & some_units(e.w2),
-        Kind::Trade => some_units(e.w1),
+        Kind::Trade | Kind::Notice => some_units(e.w1),
         Kind::Measure => e.w1 <= MOST_MDQ,
         Kind::Usage => e.w1 <= MOST_MCF,
         Kind::CloseMonth => e.prices().in_range(),
@@ -67,7 +67,8 @@ fn wrong_transfer(kind: Kind, e: Entry) -> bool
     requires { e.kind ≡ code kind }
     ensures { result ≡ wrong_transfer e }
 {
-    (kind == Kind::Transfer) & ((e.a == e.b) | (e.w1 != e.w2))
+    ((kind == Kind::Transfer) & ((e.a == e.b) | (e.w1 != e.w2)))
+        | ((kind == Kind::Notice) & (e.a == e.b))
 }
 
 // The kind of an entry with nothing wrong, or the first of 2 to 7 that applies. Apart from `check`, as the reader of an archive has no use for the entry:

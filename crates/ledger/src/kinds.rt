@@ -17,6 +17,7 @@ pub enum Kind {
     CloseMonth,
     Confiscated,
     Holiday,
+    Notice,
 }
 
 #[derive(Clone, Copy, PartialEq, Eq, Debug)]
@@ -51,6 +52,7 @@ impl TryFrom<u64> for Kind {
             9 => Ok(Kind::CloseMonth),
             10 => Ok(Kind::Confiscated),
             11 => Ok(Kind::Holiday),
+            12 => Ok(Kind::Notice),
             _ => Err(Refusal::NoSuchKind),
         }
     }
@@ -73,6 +75,7 @@ impl Kind {
             Kind::CloseMonth => (0, 0, 4, 1),
             Kind::Confiscated => (1, 0, 1, 2),
             Kind::Holiday => (0, 0, 3, 2),
+            Kind::Notice => (2, 1, 1, 2),
         };
         Uses {
             accounts,

@@ -1,4 +1,4 @@
-// The bank ledger: postings of eleven kinds, and the panel.
+// The bank ledger: postings of twelve kinds, and the panel.
 #![tactic(auto)]
 
 mod admission;
@@ -16,6 +16,7 @@ mod gas;
 mod holiday;
 mod kinds;
 mod measure;
+mod notice;
 mod panels;
 mod postings;
 mod ranges;
@@ -32,10 +33,12 @@ ghost use Rattle.ledger.specs.Refusals.{Unless};
 ghost use Rattle.ledger.specs.State.{fresh};
 ghost use Rattle.ledger.specs.Posting.{posted};
 ghost use Rattle.ledger.specs.Panel.{bank_of, panel_of};
-ghost use Rattle.ledger.specs.OldAndNew.{KeepsWhich, NineKinds, StaysAsBefore, StaysUnnamed, ForfeitsByRule, ReportsAlike, AcceptsAlike, AlikeOtherwise};
+ghost use Rattle.ledger.specs.OldAndNew.{KeepsWhich, NineKinds, StaysAsBefore, StaysUnnamed, StaysUnlettered, RetiredOnly, RefusesTooLate, ForfeitsByRule, ReportsAlike, AcceptsAlike, AlikeOtherwise};
 ghost use Rattle.ledger.specs.Measuring.{measurement_day_in, StaysInRange, EveryMonthMeasured, PlacesStay, StoredAnew, DropsPassed, KeepsOrder, HoldsIt, SameToday, MovesMeasuring};
+ghost use Rattle.ledger.specs.Letters.{PairIsTransfer, NeverOutOfRange, NoGasAlone, SameSide};
 ghost use Rattle.ledger.specs.ConfiscatedCases.{ConfiscatedCases};
 ghost use Rattle.ledger.specs.HolidayCases.{HolidayCases};
+ghost use Rattle.ledger.specs.NoticeCases.{NoticeCases};
 ghost use Rattle.ledger.specs.MarkedCases.{MarkedCases};
 
 use crate::admission::admit;
@@ -55,7 +58,7 @@ pub use answers::{Answer, Posted, Report};
 pub use forms::some_units;
 pub use panels::Panel;
 pub use refusals::Refusal;
-pub use state::{Account, Ledger, ThisMonth, Today};
+pub use state::{Account, Ledger, Notice, ThisMonth, Today};
 
 // A ledger with no terms, no date and no open account, told whether it is old or new.
 #[tactic(auto, unfolding(crate::specs::State::fresh, crate::specs::State::nobody, crate::specs::State::no_today, crate::specs::State::no_month, crate::specs::State::no_totals))]
@@ -151,12 +154,15 @@ pub fn bank(ledger: Ledger, account: usize) -> Units
     }
 }
 
-// R84 to R88: specs/OldAndNew.antt has each claim in words.
+// R84 to R88, R111 and R112: specs/OldAndNew.antt has each claim in words.
 pub fn old_stays_old()
     ensures kept { KeepsWhich }
     ensures nine_kinds { NineKinds }
     ensures as_before { StaysAsBefore }
     ensures unnamed { StaysUnnamed }
+    ensures unlettered { StaysUnlettered }
+    ensures retires { RetiredOnly }
+    ensures refuses { RefusesTooLate }
     ensures forfeits { ForfeitsByRule }
     ensures reports { ReportsAlike }
     ensures accepts { AcceptsAlike }
@@ -176,6 +182,14 @@ pub fn measuring_days()
     ensures moves { MovesMeasuring }
 {}
 
+// R114 and R115: specs/Letters.antt has each claim in words.
+pub fn letters()
+    ensures pair { PairIsTransfer }
+    ensures in_range { NeverOutOfRange }
+    ensures alone { NoGasAlone }
+    ensures same_side { SameSide }
+{}
+
 // R85 and R86: cases of confiscated gas hold of ledgers as January and March end, as one group.
 pub fn confiscated_cases()
     ensures { ConfiscatedCases }
@@ -184,6 +198,11 @@ pub fn confiscated_cases()
 // R107: cases of holidays hold of ledgers at days of December, March and others, as one group.
 pub fn holiday_cases()
     ensures { HolidayCases }
+{}
+
+// R116: cases of letters hold of ledgers in June and about 1 April 2027, as one group.
+pub fn notice_cases()
+    ensures { NoticeCases }
 {}
 
 // R67: cases worked out in advance hold of postings to an old fresh ledger, as one group.

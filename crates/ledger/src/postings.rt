@@ -15,6 +15,7 @@ use crate::enrol::enrolment;
 use crate::holiday::post_holiday;
 use crate::kinds::Kind;
 use crate::measure::measurement;
+use crate::notice::post_notice;
 use crate::refusals::Refusal;
 use crate::state::{Account, Ledger};
 use crate::terms::post_terms;
@@ -52,6 +53,7 @@ pub fn post_admitted(l: &mut Ledger, e: Admitted) -> Answer
         Kind::Transfer => post_transfer(l, e),
         Kind::CloseDay | Kind::CloseMonth => return post_closing(l, e),
         Kind::Holiday => post_holiday(l, e.entry),
+        Kind::Notice => post_notice(l, e),
         Kind::Enrol
         | Kind::Deliver
         | Kind::Trade
@@ -76,8 +78,11 @@ fn change(t: InRange<Terms>, a: InRange<Account>, e: Admitted) -> Result<Account
         Kind::Usage => usage(a.get(), e.entry),
         Kind::Confiscated => confiscation(a.get(), e.entry),
         // These name none or two, and do not come here; the definition has 2 for them too.
-        Kind::Terms | Kind::Transfer | Kind::CloseDay | Kind::CloseMonth | Kind::Holiday => {
-            Err(Refusal::NoSuchKind)
-        }
+        Kind::Terms
+        | Kind::Transfer
+        | Kind::CloseDay
+        | Kind::CloseMonth
+        | Kind::Holiday
+        | Kind::Notice => Err(Refusal::NoSuchKind),
     }
 }

@@ -1,8 +1,9 @@
 // The ranges of the numbers in a ledger, whoever hands it in.
 ghost use Rattle.std.specs.Prelude.{◌≡◌};
-ghost use Rattle.ledger.specs.Ranges.{totals_in_range, step_in_range, account_in_range, in_range};
+ghost use Rattle.ledger.specs.Ranges.{totals_in_range, step_in_range, notice_in_range, account_in_range, in_range};
 
-use crate::state::{Account, Ledger};
+use crate::forms::some_units;
+use crate::state::{Account, Ledger, Notice};
 use tariff::bill::Totals;
 use tariff::bounds::{
     MOST_BANK, MOST_BCQ, MOST_DAYS, MOST_MCF, MOST_MDQ, MOST_OVERDRAFT, MOST_OWED, MOST_UNITS,
@@ -32,6 +33,15 @@ fn step_in_range(opened: bool, s: Step) -> bool
     (!opened | (k & pending)) & ((s.over <= 2) & (s.under <= 2))
 }
 
+impl Ranged for Notice {
+    ghost ranged = { notice_in_range };
+
+    #[tactic(auto, unfolding(crate::specs::Ranges::notice_in_range))]
+    fn in_range(self) -> bool {
+        !self.stands | ((self.other < 16) & some_units(self.units.0))
+    }
+}
+
 impl Ranged for Account {
     ghost ranged = { account_in_range };
 
@@ -47,6 +57,7 @@ impl Ranged for Account {
             & self.owed.within(MOST_OWED)
             & (self.violation_days <= MOST_DAYS)
             & (self.today.confiscation.0 <= MOST_UNITS)
+            & self.today.notice.in_range()
     }
 }
 

@@ -15,6 +15,8 @@ pub enum Refusal {
     LedgerOutOfRange,
     NotBegun,
     OtherDay,
+    // A TRANSFER in a ledger that has letters alone by now.
+    Retired,
     WrongDay,
     // Not open; of an ENROL, open already.
     NotOpen,
@@ -44,6 +46,7 @@ impl From<Refusal> for u64 {
             Refusal::LedgerOutOfRange => 20,
             Refusal::NotBegun => 21,
             Refusal::OtherDay => 22,
+            Refusal::Retired => 36,
             Refusal::WrongDay => 23,
             Refusal::NotOpen => 24,
             Refusal::StaysOnFbs => 25,

@@ -10,6 +10,18 @@ use tariff::terms::{Capacity, Terms};
 
 // C lends these structs whole, so a flag stands beside what it speaks of, and nothing here is an Option.
 
+// A letter that waits for its counterpart; where none stands, the other members mean nothing.
+#[repr(C)]
+#[derive(Clone, Copy, PartialEq, Eq, Default, Debug)]
+pub struct Notice {
+    pub stands: bool,
+    // Its side. A bool, as a byte that C writes may name no side.
+    pub takes: bool,
+    // Whom it names.
+    pub other: usize,
+    pub units: Quantity,
+}
+
 // What every closing clears.
 #[repr(C)]
 #[derive(Clone, Copy, PartialEq, Eq, Default, Debug)]
@@ -22,6 +34,7 @@ pub struct Today {
     // CONFISCATED was accepted, and the amount that it told.
     pub confiscated: bool,
     pub confiscation: Quantity,
+    pub notice: Notice,
 }
 
 // What CLOSE MONTH clears.

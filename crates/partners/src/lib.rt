@@ -10,7 +10,7 @@ mod receivers;
 ghost use Rattle.std.specs.Prelude.{◌≡◌};
 ghost use Rattle.partners.specs.EveryList.{EveryList, EveryOrder, OnlyOne};
 ghost use Rattle.partners.specs.Listing.{partners_of};
-ghost use Rattle.partners.specs.Transfers.{ListedCanBeSent};
+ghost use Rattle.partners.specs.Transfers.{ListedCanBeSent, ListedCanWrite};
 ghost use Rattle.partners.specs.WorkedCases.{WorkedCases};
 
 use crate::finding::found;
@@ -34,9 +34,10 @@ pub fn every_list()
     ensures only_one { OnlyOne }
 {}
 
-// R99: those listed, and no others, could be sent the gas now.
+// R99: those listed, and no others, could be sent the gas now: by a TRANSFER, on a day that has any, and by two letters.
 pub fn listed_can_be_sent()
-    ensures { ListedCanBeSent }
+    ensures sent { ListedCanBeSent }
+    ensures written { ListedCanWrite }
 {}
 
 // R100: cases worked out in advance, as one group.
