@@ -69,8 +69,8 @@ const fn output(file: &'static str, required: bool) -> Opt {
     }
 }
 
-pub const COMMANDS: [Command; 10] = [
-    PACK, UNPACK, PANEL, LOG, STATEMENT, JOURNAL, SHEET, REPORT, PARTNERS, BACKCAST,
+pub const COMMANDS: [Command; 11] = [
+    PACK, UNPACK, PANEL, LOG, STATEMENT, JOURNAL, SHEET, REPORT, PARTNERS, LETTERS, BACKCAST,
 ];
 
 const PACK: Command = Command {
@@ -116,7 +116,8 @@ const LOG: Command = Command {
     about: "each entry in words with its answer",
     help: "\
 A line has the entry's index in the archive, counted from 0, its date, the answer and the entry; a closing is followed
-by what it reported of each account concerned. A holiday tells where it moves the measuring day of its month.
+by what it reported of each account concerned. A holiday tells where it moves the measuring day of its month; a notice
+whom it awaits, or which entry it answers, and then the gas moves.
   --account N   entries that use account N, and its part of the closings; no other account's bank
   --refused     refused entries only",
     run: log,
@@ -150,7 +151,8 @@ const JOURNAL: Command = Command {
     input: first_operand,
     about: "the movements as a journal for hledger or ledger",
     help: "\
-One transaction for each movement of gas and each bill, and after each month the ledger's balances as assertions.
+One transaction for each movement of gas and each bill, and after each month the ledger's balances as assertions. The gas
+of two notices moves at the second of them.
 Try: efbs journal A.efb > a.journal; hledger -f a.journal balance supplier; ledger -f a.journal balance supplier",
     run: journal,
 };
@@ -178,7 +180,7 @@ const REPORT: Command = Command {
     about: "a page with the gas year that begins in April of YEAR",
     help: "\
 The page is one file and needs no other; any browser shows it. It has the panel figure, a chart of each supplier's bank,
-the year sheet, the measuring days with the year's holidays, and the statements.",
+the year sheet, the measuring days with the year's holidays, the year's letters without an answer, and the statements.",
     run: write_report,
 };
 
@@ -190,9 +192,10 @@ const PARTNERS: Command = Command {
     about: "who can take a supplier's gas, as the ledger stands after the last entry",
     help: "\
 Every other open account that could take the quantity on the ledger's day: a transfer of that day and quantity from the
-seller to it is accepted, and to any other account refused. Most headroom comes first, which is the month's maximum less
-the bank; of equal ones the lower number. Where there is nobody the page says why. It shows what is in other suppliers'
-banks. Exit status 1 if the question is refused.
+seller to it is accepted, and to any other account refused; in a new archive from 1 April 2027 on the same holds of a
+pair of notices where neither of the two has one that stands. Most headroom comes first, which is the month's maximum
+less the bank; of equal ones the lower number. Where there is nobody the page says why. It shows what is in other
+suppliers' banks. Exit status 1 if the question is refused.
   --seller N       the account that has the gas
   --quantity DTH   how much of it, in Dth with at most two decimals, as 1500 or 1500.25
   --json           one object, all its gas in whole hundredths of a Dth: number, date, month, seller, bank and minimum
@@ -201,6 +204,22 @@ banks. Exit status 1 if the question is refused.
 Try: efbs partners target/gas-year.efb --seller 0 --quantity 1500
 It lists accounts 2, 1 and 3, with 12,245.80 Dth of headroom and less.",
     run: write_partners,
+};
+
+const LETTERS: Command = Command {
+    name: "letters",
+    operands: ARCHIVE,
+    options: &[ACCOUNT, flag(JSON)],
+    input: first_operand,
+    about: "the notices that stood without an answer as their day closed, and those that still stand",
+    help: "\
+Each with its entry's index in the archive, counted from 0, its date, the account that wrote it, the other party, the
+writer's side, the gas, and the closing that cleared it if one did. The last line counts all that came to stand, answered
+ones too. A notice that answers another never stands.
+  --account N   letters that account N wrote, or that are to it
+  --json        one object, gas in whole hundredths of a Dth: account (null for all), letters (each with entry, date,
+                account, other, side, gas, and cleared_by, which is null while it stands), answered, cleared, standing",
+    run: letters,
 };
 
 const BACKCAST: Command = Command {
@@ -349,6 +368,13 @@ fn write_partners(arguments: &Arguments, out: &mut dyn Write) -> Result<(), Fail
     let json = arguments.has(JSON);
     of_archive(arguments, |archive| {
         pages::partners::write(archive, seller, quantity, json, out)
+    })
+}
+
+fn letters(arguments: &Arguments, out: &mut dyn Write) -> Result<(), Failure> {
+    let (account, json) = (arguments.account()?, arguments.has(JSON));
+    of_archive(arguments, |archive| {
+        pages::letters::write(archive, account, json, out)
     })
 }
 

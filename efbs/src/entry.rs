@@ -21,9 +21,10 @@ pub enum Kind {
     Usage,
     CloseDay,
     CloseMonth,
-    /// This and the next are of the new rules.
+    /// This and those that follow are of the new rules.
     Confiscated,
     Holiday,
+    Notice,
 }
 
 #[derive(Clone, Copy, Debug, PartialEq, Eq)]
@@ -37,7 +38,7 @@ pub struct Entry {
 }
 
 impl Kind {
-    pub const ALL: [Kind; 11] = [
+    pub const ALL: [Kind; 12] = [
         Kind::Terms,
         Kind::Enrol,
         Kind::Deliver,
@@ -49,6 +50,7 @@ impl Kind {
         Kind::CloseMonth,
         Kind::Confiscated,
         Kind::Holiday,
+        Kind::Notice,
     ];
 
     pub fn is_closing(self) -> bool {
@@ -69,7 +71,7 @@ impl Entry {
         }
     }
 
-    /// None where the kind is not 1 to 11.
+    /// None where the kind is not 1 to 12.
     pub fn from_bytes(bytes: &[u8; 32]) -> Option<Entry> {
         let kind = *Kind::ALL.get(usize::from(bytes[0]).checked_sub(1)?)?;
         let word = |i: usize| 8 + 4 * i;
@@ -143,7 +145,7 @@ mod tests {
     #[test]
     fn bytes_come_back() {
         let mut bytes: [u8; 32] = std::array::from_fn(|i| 7 * i as u8 + 3);
-        for kind in 1..=11 {
+        for kind in 1..=12 {
             bytes[0] = kind;
             assert_eq!(Entry::from_bytes(&bytes).map(|e| e.to_bytes()), Some(bytes));
         }
@@ -151,7 +153,7 @@ mod tests {
 
     #[test]
     fn other_kinds_are_none() {
-        for kind in (0..=255).filter(|kind| !(1..=11).contains(kind)) {
+        for kind in (0..=255).filter(|kind| !(1..=12).contains(kind)) {
             assert_eq!(Entry::from_bytes(&[kind; 32]), None);
         }
     }

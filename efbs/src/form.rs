@@ -185,6 +185,25 @@ const HOLIDAY: Form = Form {
     }],
 };
 
+const NOTICE: Form = Form {
+    word: "notice",
+    accounts: &[
+        value("account", Place::A, Unit::Account),
+        value("other", Place::B, Unit::Account),
+    ],
+    flags: Flags::One(&[
+        Flag {
+            word: "gives",
+            bits: 0,
+        },
+        Flag {
+            word: "takes",
+            bits: 1,
+        },
+    ]),
+    values: &[word("gas", 1, Unit::Gas)],
+};
+
 impl Kind {
     pub fn form(self) -> &'static Form {
         match self {
@@ -199,6 +218,7 @@ impl Kind {
             Kind::CloseMonth => &CLOSE_MONTH,
             Kind::Confiscated => &CONFISCATED,
             Kind::Holiday => &HOLIDAY,
+            Kind::Notice => &NOTICE,
         }
     }
 }
@@ -411,14 +431,16 @@ mod tests {
         }
     }
 
-    /// The table has two kinds that old ledgers do not know, and in no other do old and new differ.
+    /// The table has three kinds that old ledgers do not know, and in no other do old and new differ.
     #[test]
-    fn two_kinds_are_of_the_new_rules() {
+    fn three_kinds_are_of_the_new_rules() {
         for kind in Kind::ALL {
             let bytes = Entry::blank(kind, DATE).to_bytes();
             let numbers = [false, true].map(|is_new| nedrulov::entry_number(is_new, &bytes));
             match kind {
                 Kind::Confiscated | Kind::Holiday => assert_eq!(numbers, [2, 0]),
+                // A blank one is of no gas.
+                Kind::Notice => assert_eq!(numbers, [2, 6]),
                 _ => assert_eq!(numbers[0], numbers[1]),
             }
         }

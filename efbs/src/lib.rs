@@ -17,6 +17,7 @@ pub mod failure;
 pub mod files;
 pub mod form;
 pub mod json;
+pub mod letters;
 pub mod lines;
 pub mod measuring;
 pub mod movements;

@@ -1,6 +1,7 @@
 //! What an accepted entry moves, told from the entry and its answer alone.
 
 use crate::entry::{Entry, Kind};
+use crate::letters::{Letter, Letters};
 use crate::replay::Step;
 use nedrulov::{amount, Report, ACCOUNTS};
 
@@ -44,11 +45,13 @@ pub struct Movement {
     pub units: i64,
 }
 
-/// What entries leave behind for those after them: who is enrolled, and the retainage of the last terms.
+/// What entries leave behind for those after them: who is enrolled, the retainage of the last terms, and the letters that
+/// stand.
 #[derive(Default)]
 pub struct Movements {
     retainage: u64,
     enrolled: [bool; ACCOUNTS],
+    letters: Letters,
 }
 
 impl Movements {
@@ -62,9 +65,11 @@ impl Movements {
             Kind::Enrol => self.enrolled[usize::from(step.entry.a)] = true,
             _ => {}
         }
-        match step.entry.kind.is_closing() {
-            true => closing(step),
-            false => posting(&step.entry, self.retainage),
+        let ended = self.letters.ended_by(step);
+        match step.entry.kind {
+            Kind::Notice => answered(&ended),
+            kind if kind.is_closing() => closing(step),
+            _ => posting(&step.entry, self.retainage),
         }
     }
 
@@ -98,16 +103,30 @@ fn posting(entry: &Entry, retainage: u64) -> Vec<Movement> {
         Kind::Deliver => vec![one(Cause::Delivery, amount(retainage, first, second))],
         Kind::Trade if entry.flags == 0 => vec![one(Cause::Sale, units)],
         Kind::Trade => vec![one(Cause::Purchase, -units)],
-        Kind::Transfer => vec![
-            one(Cause::TransferTo(b), -units),
-            Movement {
-                account: b,
-                cause: Cause::TransferIn,
-                units,
-            },
-        ],
+        Kind::Transfer => transfer(a, b, units).into(),
         _ => Vec::new(),
     }
+}
+
+fn transfer(giver: usize, taker: usize, units: i64) -> [Movement; 2] {
+    [
+        Movement {
+            account: giver,
+            cause: Cause::TransferTo(taker),
+            units: -units,
+        },
+        Movement {
+            account: taker,
+            cause: Cause::TransferIn,
+            units,
+        },
+    ]
+}
+
+/// The gas of a letter moves as its answer comes; one that stands moves none.
+fn answered(letters: &[Letter]) -> Vec<Movement> {
+    let moved = |letter: &Letter| transfer(letter.giver(), letter.taker(), letter.units);
+    letters.iter().flat_map(moved).collect()
 }
 
 fn closing(step: &Step) -> Vec<Movement> {

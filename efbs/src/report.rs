@@ -1,5 +1,6 @@
 //! A gas year of an archive as one HTML page: the panel figure, a chart of each supplier's bank, the year sheet, the
-//! measuring days and the statements. The page needs nothing beside itself: no script, no picture, no font from elsewhere.
+//! measuring days, the letters without an answer and the statements. The page needs nothing beside itself: no script, no
+//! picture, no font from elsewhere.
 
 mod axes;
 mod chart;
@@ -8,6 +9,7 @@ mod gas_year;
 mod html;
 mod lanes;
 mod legend;
+mod letters;
 mod measuring;
 mod overview;
 mod page;
@@ -19,6 +21,7 @@ mod suppliers;
 mod year_sheet;
 
 use crate::archive::Refusal;
+use crate::letters::Fates;
 use crate::measuring::MeasuringDays;
 use crate::replay::replay;
 use crate::rules::Rules;
@@ -32,10 +35,12 @@ pub fn report(archive: &[u8], year: u16) -> Result<String, Refusal> {
     let mut sums = Sums::default();
     let mut closings = OpenAtClosings::new(year);
     let mut days = MeasuringDays::new(year);
+    let mut fates = Fates::default();
     let ledger = replay(archive, |step| {
         gas_year.add(step);
         closings.add(step);
         days.add(step);
+        fates.add(step);
         sums.add(step);
     })?;
     let rules = Rules::of_archive(archive);
@@ -44,6 +49,7 @@ pub fn report(archive: &[u8], year: u16) -> Result<String, Refusal> {
         suppliers::suppliers(&gas_year),
         year_sheet::year_sheet(&gas_year, &closings.cells(archive)),
         measuring::measuring(&days, &ledger, rules),
+        letters::letters(&fates.list(), year),
         statements::statements(&gas_year, &sums.statements(&ledger)),
         page::foot(),
     ];

@@ -13,24 +13,29 @@ An archive is old or new, by the rule that its forfeits go by. Forfeits are take
         The archive begins with EFB2.
 
 A text says which it is before its first entry, by the line \"rules old\" or \"rules new\"; one that says nothing is old.
-unpack always writes the line, and pack makes the archive by it. A new text has two more kinds of entry:
+unpack always writes the line, and pack makes the archive by it. A new text has three more kinds of entry:
 
   2027-01-31 confiscated account=3 gas=1200.00
   2026-11-02 holiday on=2026-12-25
+  2027-04-12 notice account=3 other=0 gives gas=100.00
 
 The first is for January 31 and March 31, once for each account and day, and moves no gas: the close-month of that day
 reports the forfeit. Where none is posted, nothing is forfeited. The second names a day on which no meter is read. It may
 be posted on any day before that one. A month is measured on the first Monday to Friday from its 25th on that is not
 named, so a holiday there moves its measuring day: to 28 December in the example. At most 16 holidays are held at a time;
-those that have passed go as a month closes. Old texts and archives have neither kind; there it is refused with 2. What
-is posted stays with its rule: an old archive does not become new.
+those that have passed go as a month closes. The third is a supplier's own letter on gas that it gives to another or
+takes from it. It stands until the other's letter on the same gas comes, takes in the place of gives or the reverse, and
+then the gas moves as by a transfer; without that it goes as the day closes (efbs help letters). From 1 April 2027 on a
+new archive has two notices in the place of a transfer, which is refused with 36. Old texts and archives have none of the
+three kinds; there they are refused with 2. What is posted stays with its rule: an old archive does not become new.
 ";
 
 #[derive(Clone, Copy, Debug, PartialEq, Eq)]
 pub enum Rules {
     /// At the ends of January and March a supplier forfeits all gas above a share of its BCQ.
     Old,
-    /// It forfeits no more of it than the storage provider confiscated, as entries tell; and there are holidays.
+    /// It forfeits no more of it than the storage provider confiscated, as entries tell; there are holidays, and two letters
+    /// for a transfer.
     New,
 }
 

@@ -4,9 +4,26 @@ use crate::rules::Rules;
 
 /// The meaning of a refusal's number.
 pub fn refusal(number: u64, rules: Rules) -> &'static str {
+    match of_new_rules(number) {
+        Some(words) if rules.is_new() => words,
+        _ => of_either_rules(number),
+    }
+}
+
+/// Where the later kinds have a part in it.
+fn of_new_rules(number: u64) -> Option<&'static str> {
+    Some(match number {
+        2 => "the kind is none of the twelve",
+        7 => "the transfer is to its giver, or notified with two different amounts, or the notice is to its writer",
+        26 => "a second delivery or confiscation that day, measurement or usage that month, or notice while the first stands",
+        28 => "the opening, transfer, trade or gas of two notices would pass its limit",
+        _ => return None,
+    })
+}
+
+fn of_either_rules(number: u64) -> &'static str {
     match number {
         1 => "the entry is not 32 bytes long",
-        2 if rules.is_new() => "the kind is none of the eleven",
         2 => "the kind is none of the nine",
         3 => "there is no such date in 2000 to 2099",
         4 => "an account is above 15",
@@ -25,9 +42,6 @@ pub fn refusal(number: u64, rules: Rules) -> &'static str {
         23 => "not the day for an entry of this kind",
         24 => "the account is not open, or is to be enrolled and is open already",
         25 => "the supplier stays on FBS",
-        26 if rules.is_new() => {
-            "a second delivery or confiscation that day, or measurement or usage that month"
-        }
         26 => "a second delivery that day, or measurement or usage that month",
         27 => "an open account still lacks its delivery, measurement or usage",
         28 => "the opening, transfer or trade would pass its limit",
@@ -37,6 +51,7 @@ pub fn refusal(number: u64, rules: Rules) -> &'static str {
         33 => "the holiday is no date of 2000 to 2099, or not after the ledger's date",
         34 => "sixteen holidays are held already, or this one is",
         35 => "the month would have no business day left from its 25th on",
+        36 => "new rules have no transfer from 1 April 2027 on, but a notice of each party",
         _ => "no number of this ledger",
     }
 }
@@ -99,11 +114,11 @@ mod tests {
     fn every_number_has_words_of_its_own() {
         for rules in Rules::ALL {
             let refusal = |number| refusal(number, rules);
-            let numbers = (1..=13).chain(20..=29).chain(31..=35);
+            let numbers = (1..=13).chain(20..=29).chain(31..=36);
             let words: Vec<_> = numbers.map(refusal).collect();
             let different: HashSet<_> = words.iter().collect();
-            assert_eq!(different.len(), 28);
-            for number in [0, 14, 19, 30, 36, u64::MAX] {
+            assert_eq!(different.len(), 29);
+            for number in [0, 14, 19, 30, 37, u64::MAX] {
                 assert!(!words.contains(&refusal(number)), "{number}");
             }
             assert!(refusal(1).contains("32 bytes"));

@@ -73,6 +73,31 @@ fn one_day() {
     assert_eq!(found, Ok(after_first_day()));
 }
 
+/// Account 2 gives and takes by letters, of which the first came from either; what stands or is refused is in no term.
+#[test]
+fn two_letters_are_a_transfer() {
+    const LETTERS: &str = "\
+2026-04-01 notice account=2 other=5 gives gas=3.00
+2026-04-01 notice account=5 other=2 takes gas=3.00
+2026-04-01 notice account=2 other=5 takes gas=1.25
+2026-04-01 notice account=2 other=5 takes gas=1.00
+2026-04-01 notice account=5 other=2 gives gas=1.25
+2026-04-01 transfer from=2 to=5 gas=0.50
+2026-04-01 notice account=5 other=2 gives gas=4.00
+2026-04-01 notice account=2 other=5 gives gas=4.00
+";
+    let archive = pack(&["rules new\n", BEGINNING, LETTERS].concat());
+    let found = statements(&archive, None).expect("the archive is right");
+    let moved = found
+        .iter()
+        .map(|s| (s.transfers_in, s.transfers_out, s.bank));
+    assert_eq!(
+        moved.collect::<Vec<_>>(),
+        [(125, 350, 775), (350, 125, 2_225)]
+    );
+    assert!(found.iter().all(Statement::agrees));
+}
+
 #[test]
 fn sums() {
     for statement in after_first_day() {

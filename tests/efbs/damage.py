@@ -11,11 +11,11 @@ from checks import Checks, run, write
 
 READERS = (
     ["panel", "FILE"], ["unpack", "FILE"], ["log", "FILE"], ["statement", "FILE"], ["journal", "FILE"], ["sheet", "FILE", "2026"],
-    ["report", "FILE", "2026"],
+    ["report", "FILE", "2026"], ["letters", "FILE"], ["letters", "FILE", "--json"],
 )
 # These answer in their own way: the damage may have taken the account's enrolment, and a text is no archive.
 OTHERS = (
-    ["log", "FILE", "--account", "0", "--refused"], ["partners", "FILE", "--seller", "0", "--quantity", "1"],
+    ["log", "FILE", "--account", "0", "--refused"], ["letters", "FILE", "--account", "1"], ["partners", "FILE", "--seller", "0", "--quantity", "1"],
     ["pack", "FILE", "-o", "-"],
     ["backcast", "--base", "520", "--slope", "61.75", "--turning", "65", "31.7", "--temperatures", "FILE"],
 )
@@ -24,6 +24,8 @@ PREFIXES, FLIPS, NOISES = 200, 150, 50
 APRIL = date(2026, 4, 1)
 # Accepted, all of them; that of June moves a measuring day to come.
 HOLIDAYS = ((2026, 6, 25), (2026, 5, 1), (2026, 4, 28), (2027, 1, 1))
+# Accepted too, on the first day: two of which the second answers the first, and one that stands.
+LETTERS = ((0, 1, 0, 100), (1, 0, 1, 100), (1, 0, 0, 100))
 
 
 def turned(content, bit):
@@ -33,8 +35,8 @@ def turned(content, bit):
 
 
 def damaged(draw):
-    """Two months of a supplier as an old archive, as a new one that tells confiscations and holidays, and as text, each
-    damaged."""
+    """Two months of two suppliers as an old archive, as a new one that tells confiscations and holidays and has letters, and
+    as text, each damaged."""
     old, new = lists(draw)
     with open("samples/gas-year.txt", "rb") as sample:
         text = sample.read(8_000)
@@ -47,11 +49,12 @@ def damaged(draw):
 
 
 def lists(draw):
-    old = entries.years(APRIL, date(2026, 5, 31), 1, draw)
+    old = entries.years(APRIL, date(2026, 5, 31), 2, draw)
     told = [(date(2026, 4, day), 0, 500) for day in range(1, 31)]
     new = entries.with_confiscations(old, told)
     named = [entries.entry(APRIL, entries.HOLIDAY, words=words) for words in HOLIDAYS]
-    return old, new[:2] + named + new[2:]
+    written = [entries.entry(APRIL, entries.NOTICE, *letter[:3], letter[3:]) for letter in LETTERS]
+    return old, new[:3] + named + written + new[3:]
 
 
 def damaged_archive(draw, archive, prefixes):
@@ -75,7 +78,8 @@ def fourth_bytes(checks, folder):
     """49 begins an old archive, 50 a new one, every other byte none; an old one has no entries of the new kinds."""
     old, new = lists(random.Random(50))
     first = next(index for index, raw in enumerate(new) if raw[0] > entries.CLOSE_MONTH)
-    right, refused = f"{len(old)} 0 ", f"{len(old) + len(HOLIDAYS)} {len(new) - len(old) - len(HOLIDAYS)} "
+    more = len(HOLIDAYS) + len(LETTERS)
+    right, refused = f"{len(old)} 0 ", f"{len(old) + more} {len(new) - len(old) - more} "
     for made, taken in ((old, {49: right, 50: right}), (new, {49: f"archive 2 {first}", 50: refused})):
         for byte in range(256):
             out = run("panel", write(f"{folder}/fourth", entries.archive(made, b"EFB" + bytes([byte]))))[1].decode()

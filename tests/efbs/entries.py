@@ -3,8 +3,8 @@
 import struct
 from datetime import date, timedelta
 
-TERMS, ENROL, DELIVER, TRANSFER, TRADE, MEASURE, USAGE, CLOSE_DAY, CLOSE_MONTH, CONFISCATED, HOLIDAY = range(1, 12)
-LAST_KIND = HOLIDAY
+TERMS, ENROL, DELIVER, TRANSFER, TRADE, MEASURE, USAGE, CLOSE_DAY, CLOSE_MONTH, CONFISCATED, HOLIDAY, NOTICE = range(1, 13)
+LAST_KIND = NOTICE
 SOME_TERMS = (120_000, 480_000, 5_000_400, 150, 12_550, 32)
 SOME_PRICES = (2_950, 3_120, 2_610, 415)
 OLD, NEW = b"EFB1", b"EFB2"
@@ -135,8 +135,10 @@ def any_entry(draw, last_kind=CLOSE_MONTH):
         return entry(day, kind, account, flags=draw.randrange(4), words=(near(draw, 0, 300_000), near(draw, 0, gas)))
     if kind == DELIVER:
         return entry(day, kind, account, words=(near(draw, 0, gas), near(draw, 0, gas)))
-    if kind == TRANSFER:
+    if kind in (TRANSFER, NOTICE):
         other = draw.choice([receiver for receiver in range(16) if receiver != account])
+        if kind == NOTICE:
+            return entry(day, kind, account, other, draw.randrange(2), (near(draw, 1, gas),))
         return entry(day, kind, account, other, words=(near(draw, 1, gas),) * 2)
     if kind == TRADE:
         return entry(day, kind, account, flags=draw.randrange(2), words=(near(draw, 1, gas),))

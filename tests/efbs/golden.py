@@ -5,7 +5,7 @@
     golden.py EFBS --renew   stores what is written now; look at it with: git diff tests/efbs/golden
 
 A transcript has command lines that begin with "$ ", each followed by what it wrote to both outputs and, if it is not 0,
-its exit status in brackets. They run in a folder with the sample years gas-year and holiday-year, each as .txt and .efb,
+its exit status in brackets. They run in a folder with the samples gas-year, holiday-year and letters, each as .txt and .efb,
 the folder cases/ of archives right and wrong, and the texts in inputs/.
 """
 
@@ -20,8 +20,8 @@ import tempfile
 HERE = os.path.dirname(os.path.abspath(__file__))
 ROOT = os.path.dirname(os.path.dirname(HERE))
 # Refusals that a command can meet; the others are named beside the table of words, efbs/src/words.rs.
-REACHED = [*range(2, 12), *range(21, 30), *range(31, 36)]
-SAMPLES = ("gas-year", "holiday-year")
+REACHED = [*range(2, 12), *range(21, 30), *range(31, 37)]
+SAMPLES = ("gas-year", "holiday-year", "letters")
 
 
 def fill(folder, efbs):

@@ -74,12 +74,12 @@ def compare(checks, program, journal, terms):
 
 
 def main():
-    (folder, sample, holidays), checks = sys.argv[1:], Checks("journal")
+    (folder, sample, holidays, letters), checks = sys.argv[1:], Checks("journal")
     made = entries.years(date(2026, 4, 1), date(2027, 12, 31), 16, random.Random(5))
     many = write(f"{folder}/many.efb", entries.archive(made))
     filled = entries.with_confiscations(entries.filled((0, 7), MARCH), [(MARCH, 0, 123_456), (MARCH, 7, 10**9)])
     new = write(f"{folder}/new.efb", entries.archive(filled, entries.NEW))
-    for archive, suppliers in ((sample, 4), (holidays, 4), (many, 16), (new, 2)):
+    for archive, suppliers in ((sample, 4), (holidays, 4), (letters, 3), (many, 16), (new, 2)):
         journal = write(f"{archive}.journal", run("journal", archive)[1])
         terms = statement_terms(archive)
         checks.that(len(terms) == suppliers * len(TERMS), f"the statement of {archive} has every term of {suppliers} suppliers")

@@ -22,8 +22,8 @@ def main():
     times = []
     for command in (
         ["panel", archive], ["log", archive], ["statement", archive], ["journal", archive], ["sheet", archive, "2050"],
-        ["report", archive, "2050"], ["partners", archive, "--seller", "0", "--quantity", "1"], ["unpack", archive, "-o", text],
-        ["pack", text, "-o", again],
+        ["report", archive, "2050"], ["partners", archive, "--seller", "0", "--quantity", "1"], ["letters", archive],
+        ["unpack", archive, "-o", text], ["pack", text, "-o", again],
     ):
         begun = time.monotonic()
         status, out, _ = run(*command)

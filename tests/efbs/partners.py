@@ -1,6 +1,7 @@
 """Who can take a supplier's gas, as efbs partners tells it, against postings: a transfer of the ledger's day from the seller
-to an account is accepted if that is listed, and refused if not. The texts are the sample, cut at days of its year and under
-both rules, and others made at random, of up to sixteen accounts."""
+to an account is accepted if that is listed, and refused if not; in a new ledger the same holds of the second of two letters.
+The texts are the sample, cut at days of its year and under both rules, and others made at random, of up to sixteen
+accounts."""
 
 import json
 import random
@@ -18,7 +19,8 @@ CUTS = ("2026-04-12", "2026-05-18", "2026-07-20", "2026-08-20", "2026-10-01", "2
 APRIL = date(2026, 4, 1)
 TERMS = "terms no-notice=120000 design-day=480000 storage=5000400 retainage=0.00% demand-rate=12.550 commodity-rate=0.032"
 PRICES = "average-cost=2.950 highest-price=3.120 lowest-price=2.610 pipeline-charges=0.415"
-KINDS = ("listed", "minimum", "headroom", "alone", "to the maximum", "to the minimum", "equals", "all others")
+KINDS = ("listed", "minimum", "headroom", "alone", "to the maximum", "to the minimum", "equals", "all others",
+         "by_transfer", "by_letters")
 MEMBERS = ["number", "date", "month", "seller", "bank", "minimum", "quantity", "partners", "why"]
 
 
@@ -104,17 +106,42 @@ def in_order(text, partners):
     text.that(all(-key[0] == partner["headroom"] for key, partner in zip(keys, partners)), f"headroom in {partners}")
 
 
-def by_postings(text, answer):
-    """Refused lines change nothing, so that those to accounts that are not listed stand together before one that is."""
+def by_transfer(answer, account):
+    return [f"{answer['date']} transfer from={answer['seller']} to={account} gas={dth(answer['quantity'])}"]
+
+
+def by_letters(answer, account):
+    """The other's comes first: it stands whatever the limits, and where the seller's is refused the seller has none."""
+    day, seller, gas = answer["date"], answer["seller"], dth(answer["quantity"])
+    return [f"{day} notice account={account} other={seller} takes gas={gas}",
+            f"{day} notice account={seller} other={account} gives gas={gas}"]
+
+
+def ways(text, answer):
+    """How gas passes on the day; in new ledgers by letters on any, and by transfers until the end of March 2027."""
+    if text.rules == "old" or answer["date"] < "2027-04-01":
+        yield by_transfer
+    if text.rules == "new":
+        yield by_letters
+
+
+def by_postings(text, answer, tally):
+    """Gas that is refused changes no bank, so that the lines to accounts that are not listed stand before one that is."""
     seller, listed = answer["seller"], [partner["account"] for partner in answer["partners"]]
     text.that(seller not in listed, f"the seller is listed in {answer}")
-    words = f"{answer['date']} transfer from={seller} gas={dth(answer['quantity'])} to="
-    lines = [f"{words}{account}" for account in ACCOUNTS if account not in (seller, *listed)]
-    for last in [[f"{words}{account}"] for account in listed if account != seller] or [[]]:
-        refused = text.refused(lines + last)
-        text.that(refused == [*range(len(lines))], f"of {lines + last} there are refused {refused}, but listed {listed}")
-        # They were tried.
-        lines = []
+    for way in ways(text, answer):
+        tally[way.__name__] += 1
+        lines, due = [], []
+        for account in ACCOUNTS:
+            if account not in (seller, *listed):
+                lines += way(answer, account)
+                first_stands = way == by_letters and {account, seller} <= text.open
+                due += [len(lines) - 1] if way == by_transfer or first_stands else [len(lines) - 2, len(lines) - 1]
+        for last in [way(answer, account) for account in listed if account != seller] or [[]]:
+            refused = text.refused(lines + last)
+            text.that(refused == due, f"of {lines + last} there are refused {refused}, but listed {listed}")
+            # They were tried.
+            lines, due = [], []
 
 
 def reason(text, answer):
@@ -175,7 +202,7 @@ def compare(draw, text, tally):
         for quantity in quantities(draw, text, seller):
             answer = text.asked(seller, quantity)
             in_order(text, answer["partners"])
-            by_postings(text, answer)
+            by_postings(text, answer, tally)
             if seller in text.open:
                 count(tally, answer, reason(text, answer))
                 on_page(text, answer)
@@ -188,7 +215,8 @@ def main():
             compare(draw, Text(checks, folder, f"the sample until {until}", rules, sample(until)), tally)
         for number in range(RANDOM_TEXTS // 2):
             compare(draw, Text(checks, folder, f"text {number}", rules, made(draw)), tally)
-    compare(draw, Text(checks, folder, "the sample", "old", sample()), tally)
+    for rules in ("old", "new"):
+        compare(draw, Text(checks, folder, "the sample", rules, sample()), tally)
     checks.that(min(tally[kind] for kind in KINDS) > 2, f"answers of every kind: {tally}")
     checks.end(f"; {tally['listed']} lists, {tally['to the maximum']} with an account that is then full, {tally['equals']} "
                f"with equal headroom; {tally['minimum'] + tally['headroom'] + tally['alone']} empty ones")

@@ -5,7 +5,7 @@ import sys
 
 from checks import Checks, read, run
 
-BUILT, ARCHIVES = "target/bin/efbs", ("target/gas-year.efb", "target/holiday-year.efb")
+BUILT, ARCHIVES = "target/bin/efbs", ("target/gas-year.efb", "target/holiday-year.efb", "target/letters.efb")
 
 
 def main():
@@ -30,6 +30,7 @@ def main():
     checks.that(counts.get("backcast", 0) > 4, "README shows back-casts")
     checks.that(counts.get("partners", 0) > 5, "README shows partners")
     checks.that(counts.get("sheet", 0) > 1, "README shows measuring days")
+    checks.that(counts.get("letters", 0) > 5, "README shows letters")
     readings = re.search(r"`(--temperatures \S+)`", readme)[1].split()
     status, page, _ = run("backcast", "--base", "520", "--slope", "61.75", "--turning", "65", *readings)
     checks.that(status == 0 and len(page.split(b"\n")) > 10, "README's readings have their back-casts")

@@ -170,11 +170,12 @@ def parser_notices(checks, page):
 
 
 def main():
-    folder, sample, holidays = sys.argv[1:]
+    folder, sample, holidays, letters = sys.argv[1:]
     checks = Checks("report")
     for name, archive in (("the sample", sample), ("the sample with holidays", holidays)):
         days = compare(checks, name, archive, 2026)
         checks.that(days == 8, f"violation days of {name}")
+    compare(checks, "the sample of letters", letters, 2027)
     parser_notices(checks, run("report", sample, "2026")[1].decode())
     headlines(checks, folder)
     later_enrolment(checks, folder)

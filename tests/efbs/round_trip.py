@@ -42,13 +42,13 @@ def sample(checks, folder):
     checks.that([line for line in read(unpacked).split(b"\n") if line] == [b"rules old", *lines], "the sample's lines")
 
 
-def holiday_sample(checks, folder):
-    """The sample of new rules has the entries that unpack writes, its line of the rules among them."""
-    packed = f"{folder}/holidays.efb"
-    checks.that(run("pack", "samples/holiday-year.txt", "-o", packed)[0] == 0, "the sample with holidays packs")
-    lines = [line for line in read("samples/holiday-year.txt").split(b"\n") if line and not line.startswith(b"#")]
-    checks.that([line for line in run("unpack", packed)[1].split(b"\n") if line] == lines, "its lines")
-    same_bytes(checks, "the sample with holidays", read(packed), folder)
+def new_sample(checks, folder, name):
+    """A sample of new rules has the entries that unpack writes, its line of the rules among them."""
+    text, packed = f"samples/{name}.txt", f"{folder}/new-sample.efb"
+    checks.that(run("pack", text, "-o", packed)[0] == 0, f"{text} packs")
+    lines = [line for line in read(text).split(b"\n") if line and not line.startswith(b"#")]
+    checks.that([line for line in run("unpack", packed)[1].split(b"\n") if line] == lines, f"the lines of {text}")
+    same_bytes(checks, text, read(packed), folder)
 
 
 def documented(checks, folder):
@@ -66,7 +66,8 @@ def documented(checks, folder):
 def main():
     folder, checks = sys.argv[1], Checks("round trip")
     sample(checks, folder)
-    holiday_sample(checks, folder)
+    for name in ("holiday-year", "letters"):
+        new_sample(checks, folder, name)
     documented(checks, folder)
     panel_cases(checks, folder)
     draw = random.Random(32)

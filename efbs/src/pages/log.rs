@@ -4,6 +4,7 @@ use super::{never_enrolled, show};
 use crate::entry::{Entry, Kind};
 use crate::failure::Failure;
 use crate::form::Value;
+use crate::letters::{Letter, Letters};
 use crate::measuring::measuring_day;
 use crate::movements::{reported_movements, Cause, Movement, Movements};
 use crate::named_day::NamedDay;
@@ -39,6 +40,12 @@ impl Choice {
     }
 }
 
+/// What a step did that its entry does not tell by itself.
+struct Outcome {
+    moved: Vec<Movement>,
+    ended: Vec<Letter>,
+}
+
 /// Entries counted by their answer.
 #[derive(Default)]
 struct Tally {
@@ -60,7 +67,7 @@ impl Tally {
 }
 
 pub fn write(archive: &[u8], choice: Choice, out: &mut dyn Write) -> Result<(), Failure> {
-    let mut movements = Movements::default();
+    let (mut movements, mut letters) = (Movements::default(), Letters::default());
     let (mut whole, mut shown) = (Tally::default(), Tally::default());
     let mut log = Log {
         choice,
@@ -69,13 +76,16 @@ pub fn write(archive: &[u8], choice: Choice, out: &mut dyn Write) -> Result<(), 
         out,
     };
     show(archive, |step| {
-        let moved = movements.of(step);
+        let outcome = Outcome {
+            moved: movements.of(step),
+            ended: letters.ended_by(step),
+        };
         whole.add(step);
         if !choice.shows(step, &movements) {
             return Ok(());
         }
         shown.add(step);
-        log.write_step(step, &moved)
+        log.write_step(step, &outcome)
     })?;
     let stranger = choice
         .account
@@ -126,7 +136,7 @@ impl Log<'_> {
         }
     }
 
-    fn write_step(&mut self, step: &Step, moved: &[Movement]) -> io::Result<()> {
+    fn write_step(&mut self, step: &Step, outcome: &Outcome) -> io::Result<()> {
         self.write_head()?;
         let (index, date, width) = (step.index, step.entry.date, self.width);
         let answer = match step.answer.number {
@@ -134,24 +144,26 @@ impl Log<'_> {
             number => format!("REFUSED {number}"),
         };
         let what = in_words(&step.entry);
-        let effect = effect(step, moved, self.choice);
+        let effect = effect(step, outcome, self.choice);
         writeln!(
             self.out,
             "{index:>width$}  {date}  {answer:<10}  {what}{effect}"
         )?;
         if step.accepted() && step.entry.kind.is_closing() {
             for account in self.choice.accounts() {
-                self.write_closing(step, account)?;
+                self.write_closing(step, account, &outcome.ended)?;
             }
         }
         Ok(())
     }
 
     /// An account's part of a closing, if it has one.
-    fn write_closing(&mut self, step: &Step, account: usize) -> io::Result<()> {
+    fn write_closing(&mut self, step: &Step, account: usize, ended: &[Letter]) -> io::Result<()> {
         // Date and answer with the spaces around them, and two more to stand inward.
         const DATE_AND_ANSWER: usize = 28;
-        let parts = closing_parts(step, account).join("; ");
+        let mut parts = closing_parts(step, account);
+        parts.extend(unanswered(account, ended));
+        let parts = parts.join("; ");
         match parts.is_empty() {
             true => Ok(()),
             false => {
@@ -181,7 +193,7 @@ fn in_words(entry: &Entry) -> String {
 }
 
 /// What an entry that is no closing did, or why it was refused.
-fn effect(step: &Step, moved: &[Movement], choice: Choice) -> String {
+fn effect(step: &Step, outcome: &Outcome, choice: Choice) -> String {
     if !step.accepted() {
         let why = refusal(step.answer.number, Rules::of_ledger(step.after));
         return format!("; {why}");
@@ -190,17 +202,44 @@ fn effect(step: &Step, moved: &[Movement], choice: Choice) -> String {
     match step.entry.kind {
         Kind::Enrol => format!("; {}", capacity(after)),
         Kind::Measure => format!("; {}", step_in_words(after)),
-        Kind::Deliver | Kind::Trade | Kind::Transfer => moved
-            .iter()
-            .filter(|movement| choice.accounts().contains(&movement.account))
-            .map(|movement| {
-                let bank = step.after.accounts[movement.account].bank;
-                format!("; {}", moved_in_words(movement, bank))
-            })
-            .collect(),
+        Kind::Deliver | Kind::Trade | Kind::Transfer => moved_banks(step, &outcome.moved, choice),
+        Kind::Notice => reply(step, &outcome.ended) + &moved_banks(step, &outcome.moved, choice),
         Kind::Holiday => moved_measuring(step),
         _ => String::new(),
     }
+}
+
+fn moved_banks(step: &Step, moved: &[Movement], choice: Choice) -> String {
+    let shown = |movement: &&Movement| choice.accounts().contains(&movement.account);
+    let moved = moved.iter().filter(shown).map(|movement| {
+        let bank = step.after.accounts[movement.account].bank;
+        format!("; {}", moved_in_words(movement, bank))
+    });
+    moved.collect()
+}
+
+/// Which letter a notice answers, and who gives to whom by the two; or whom it awaits.
+fn reply(step: &Step, ended: &[Letter]) -> String {
+    match ended.first() {
+        Some(letter) => {
+            let (index, giver, taker) = (letter.index, letter.giver(), letter.taker());
+            format!("; answers entry {index}: account {giver} gives to account {taker}")
+        }
+        None => {
+            let letter = Letter::of(step);
+            let (other, side) = (letter.other, letter.other_side());
+            format!("; stands until the day closes, and awaits that account {other} {side} as much")
+        }
+    }
+}
+
+/// An account's own letters that a closing ended.
+fn unanswered(account: usize, ended: &[Letter]) -> impl Iterator<Item = String> + '_ {
+    let own = ended.iter().filter(move |letter| letter.writer == account);
+    own.map(|letter| {
+        let (index, other) = (letter.index, letter.other);
+        format!("letter to account {other}, entry {index}, goes unanswered")
+    })
 }
 
 /// Where a holiday moves the measuring day of its month.

@@ -2,6 +2,7 @@
 
 pub mod backcast;
 pub mod journal;
+pub mod letters;
 pub mod log;
 pub mod partners;
 pub mod sheet;

@@ -87,6 +87,14 @@ mod tests {
         Entry::blank(kind, Day { year, month, day })
     }
 
+    /// One of account 0 and some gas, or the like.
+    fn of_new_rules(kind: Kind) -> Entry {
+        let mut entry = closing(kind);
+        entry.words[0] = 1;
+        entry.b = u8::from(kind == Kind::Notice);
+        entry
+    }
+
     #[test]
     fn rules_are_named_once_and_before_the_first_entry() {
         let mut list = List::default();
@@ -101,11 +109,11 @@ mod tests {
 
     #[test]
     fn kinds_of_the_new_rules_need_them() {
-        for kind in [Kind::Confiscated, Kind::Holiday] {
+        for kind in [Kind::Confiscated, Kind::Holiday, Kind::Notice] {
             for (rules, taken) in [(Rules::Old, false), (Rules::New, true)] {
                 let mut list = List::default();
                 assert_eq!(list.name_rules(rules), Ok(()));
-                let added = list.add(1, &closing(kind));
+                let added = list.add(1, &of_new_rules(kind));
                 assert_eq!(added.is_ok(), taken);
                 assert!(taken || matches!(added, Err(Fault::Entry { number: 2, .. })));
             }

@@ -16,3 +16,8 @@ pub fn sample() -> Vec<u8> {
 pub fn holiday_sample() -> Vec<u8> {
     pack(include_str!("../../../samples/holiday-year.txt"))
 }
+
+#[allow(dead_code)]
+pub fn letter_sample() -> Vec<u8> {
+    pack(include_str!("../../../samples/letters.txt"))
+}

@@ -1,6 +1,6 @@
 //! Archives to make pages of: the sample whole, cut short and with too much to report.
 
-use crate::common::{holiday_sample, sample};
+use crate::common::{holiday_sample, letter_sample, sample};
 use efbs::archive::of_list;
 use efbs::entry::{Entry, Kind};
 use efbs::replay::{replay, Step};
@@ -84,5 +84,7 @@ pub fn pages() -> Vec<String> {
         page(&crowded(), SAMPLE_YEAR),
         page(&confiscated(), SAMPLE_YEAR),
         page(&holiday_sample(), SAMPLE_YEAR),
+        page(&letter_sample(), SAMPLE_YEAR),
+        page(&letter_sample(), SAMPLE_YEAR + 1),
     ]
 }

@@ -1,7 +1,7 @@
 //! A page is well made, needs nothing from elsewhere and says what it does not have.
 
 use crate::archives::{page, pages, EMPTY, SAMPLE_YEAR};
-use crate::common::{holiday_sample, sample};
+use crate::common::{holiday_sample, letter_sample, pack, sample};
 use crate::reading::charts;
 use efbs::archive::Refusal;
 use efbs::report::report;
@@ -68,10 +68,14 @@ fn a_year_without_closings_says_so() {
     assert!(page(EMPTY, SAMPLE_YEAR).contains("no accepted posting at all"));
 }
 
-/// The part of a page between the heading of the measuring days and the end of their section.
-fn measuring_days(page: &str) -> &str {
-    let part = page.split("<h2>Measuring days</h2>").nth(1);
+/// The part of a page between a heading and the end of its section.
+fn part<'a>(page: &'a str, heading: &str) -> &'a str {
+    let part = page.split(&format!("<h2>{heading}</h2>")).nth(1);
     part.map_or("", |rest| rest.split("</section>").next().unwrap_or(""))
+}
+
+fn measuring_days(page: &str) -> &str {
+    part(page, "Measuring days")
 }
 
 #[test]
@@ -95,6 +99,38 @@ fn measuring_days_and_holidays_are_told() {
     ] {
         assert!(!without.contains("Measuring days"));
     }
+}
+
+#[test]
+fn letters_without_an_answer_are_told() {
+    let [first, later] = [SAMPLE_YEAR, SAMPLE_YEAR + 1].map(|year| page(&letter_sample(), year));
+    let [first, later] = [&first, &later].map(|page| part(page, "Letters without an answer"));
+    assert!(first.contains("that stood: 10; answered: 4; cleared by a closing without an answer: 6; standing as the archive ends: 0."));
+    assert_eq!(first.matches("<tr>").count(), 1 + 6);
+    assert!(later.contains("<td>takes</td><td>300.00</td><td>–</td></tr>"));
+    assert!(later.contains("that stood: 4; answered: 2;"));
+    assert!(part(&page(&answered(), 2027), "Letters without an answer").ends_with("</p>\n"));
+    for without in [
+        page(EMPTY, SAMPLE_YEAR),
+        page(&sample(), SAMPLE_YEAR),
+        page(&holiday_sample(), SAMPLE_YEAR),
+        page(&letter_sample(), 2025),
+    ] {
+        assert!(!without.contains("Letters without an answer"));
+    }
+}
+
+/// Two letters of which the second answers the first.
+fn answered() -> Vec<u8> {
+    pack(
+        "rules new
+2027-04-01 terms no-notice=120000 design-day=480000 storage=5000400 retainage=0.00% demand-rate=0.000 commodity-rate=0.000
+2027-04-01 enrol account=0 wants-efbs mdq=4200 opening=10.00
+2027-04-01 enrol account=1 wants-efbs mdq=4200 opening=0.00
+2027-04-01 notice account=0 other=1 gives gas=10.00
+2027-04-01 notice account=1 other=0 takes gas=10.00
+",
+    )
 }
 
 #[test]
