@@ -3,6 +3,7 @@
 use crate::calendar::Date;
 use crate::holidays::Named;
 use crate::ledger::{Prices, Terms, ACCOUNTS, CONFISCATION_MAX, MCF_MAX, MDQ_MAX};
+use crate::notices::Notice;
 use crate::number;
 use std::ops::RangeInclusive;
 
@@ -25,7 +26,7 @@ pub struct Entry {
     pub posting: Posting,
 }
 
-/// The eleven kinds. Accounts are 0 to 15, words within their ranges.
+/// The twelve kinds. Accounts are 0 to 15, words within their ranges.
 #[derive(Clone, Copy, PartialEq, Eq, Debug)]
 pub enum Posting {
     Terms(Terms),
@@ -74,6 +75,11 @@ pub enum Posting {
     /// No meter is read on that day, if it is one: its three numbers are as
     /// wide as the words. In new ledgers and archives only.
     Holiday(Named),
+    /// One of the two letters for a transfer; in new ledgers and archives only.
+    Notice {
+        writer: usize,
+        letter: Notice,
+    },
 }
 
 /// Which bytes a kind uses: how many accounts, the sum of its flags, and how
@@ -85,7 +91,7 @@ struct Uses {
 }
 
 /// In the order of the kinds, from 1.
-const USES: [Uses; 11] = {
+const USES: [Uses; 12] = {
     const fn uses(accounts: usize, flags: u8, words: usize) -> Uses {
         Uses {
             accounts,
@@ -105,6 +111,7 @@ const USES: [Uses; 11] = {
         uses(0, 0, 4),                     // CLOSE MONTH
         uses(1, 0, 1),                     // CONFISCATED
         uses(0, 0, 3),                     // HOLIDAY
+        uses(2, 1, 1),                     // NOTICE
     ]
 };
 
@@ -233,13 +240,24 @@ fn posting(kind: u8, accounts: [usize; 2], flags: u8, words: [u64; 6]) -> Result
             let [year, month, day] = [w1, w2, w3];
             (true, Posting::Holiday(Named { year, month, day }))
         }
+        12 => {
+            let letter = Notice {
+                stands: true,
+                takes: flags != 0,
+                other,
+                units: w1,
+            };
+            let writer = account;
+            (letter.in_range(), Posting::Notice { writer, letter })
+        }
         _ => return Err(number::KIND),
     };
     if !in_range {
         return Err(number::WORD);
     }
-    if kind == 4 && (account == other || w1 != w2) {
-        return Err(number::TRANSFER);
+    match posting {
+        Posting::Transfer { .. } if account == other || w1 != w2 => Err(number::TRANSFER),
+        Posting::Notice { .. } if account == other => Err(number::TRANSFER),
+        _ => Ok(posting),
     }
-    Ok(posting)
 }

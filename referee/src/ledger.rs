@@ -2,6 +2,7 @@
 
 use crate::calendar::Date;
 use crate::holidays::Holidays;
+use crate::notices::Notice;
 use crate::number;
 use crate::tariff::{self, RUN_MAX};
 use std::ops::RangeInclusive;
@@ -60,6 +61,8 @@ pub struct Account {
     pub violation_days: u64,
     /// The amount that CONFISCATED posted today.
     pub confiscation: u64,
+    /// The letter of today that waits for its counterpart.
+    pub notice: Notice,
 
     /// Mark of the day: DELIVER was accepted.
     pub delivered: bool,
@@ -79,7 +82,7 @@ pub struct Account {
 
 impl Account {
     /// Whether every number is in its range. Steps are bounded only while the
-    /// account is open; marks have no range.
+    /// account is open, and a letter only while it stands; marks have no range.
     pub fn in_range(&self) -> bool {
         let month = [
             self.sales,
@@ -95,6 +98,7 @@ impl Account {
             && OWED.contains(&self.owed)
             && self.violation_days <= VIOLATION_DAYS_MAX
             && self.confiscation <= CONFISCATION_MAX
+            && self.notice.in_range()
             && (!self.opened || STEPS.contains(&self.k) && STEPS.contains(&self.pending))
             && self.over <= RUN_MAX
             && self.under <= RUN_MAX
@@ -123,7 +127,7 @@ pub struct Ledger {
     /// Something was accepted today.
     pub touched: bool,
     /// Kept from the fresh ledger on: CONFISCATED exists, and bounds the
-    /// forfeit; HOLIDAY exists.
+    /// forfeit; HOLIDAY and NOTICE exist; TRANSFER ends.
     pub is_new: bool,
     pub year: u64,
     pub month: u64,

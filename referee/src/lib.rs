@@ -8,9 +8,10 @@
 //! on an arithmetic of doubles of its own.
 //!
 //! Ledgers and archives are old or new. Only the new ones have CONFISCATED,
-//! and forfeit no more than it posts, and HOLIDAY; one parameter carries that
-//! through. The dates that HOLIDAY names stand in the ledger and move the
-//! measurement day.
+//! and forfeit no more than it posts, HOLIDAY and NOTICE; one parameter carries
+//! that through. The dates that HOLIDAY names stand in the ledger and move the
+//! measurement day. A NOTICE stands in its writer's account until the letter
+//! that fits it moves the gas or the day is closed.
 //!
 //! Gas that moves is in units, a hundred to the Dth; MDQ, MDDQ and BCQ are in
 //! Dth, consumption is in Mcf and money in mills. A percentage p of a BCQ is
@@ -26,6 +27,7 @@ mod double;
 pub mod entry;
 pub mod holidays;
 pub mod ledger;
+pub mod notices;
 pub mod number;
 pub mod partners;
 pub mod posting;
@@ -37,5 +39,6 @@ pub use calendar::{Date, Month};
 pub use entry::{entry_number, Entry, Posting};
 pub use holidays::{measurement_day, Holidays, Named};
 pub use ledger::{panel, Account, Ledger, Prices, Terms};
+pub use notices::Notice;
 pub use partners::{partners, PartnerList};
 pub use posting::{post, Answer, Report};

@@ -1,13 +1,13 @@
 //! The numbers of an answer. Checks are made from the lowest number to the
-//! highest, but for 33 to 35, which follow 23; the first that finds a fault is
-//! the answer.
+//! highest, but for 36, which follows 22, and 33 to 35, which follow 23; the
+//! first that finds a fault is the answer.
 
 /// Accepted.
 pub const ACCEPTED: u64 = 0;
 
 /// An entry has 32 bytes, a list a multiple of 32.
 pub const LENGTH: u64 = 1;
-/// Kinds are 1 to 9, and 10 and 11 in new ledgers and archives only.
+/// Kinds are 1 to 9, and 10 to 12 in new ledgers and archives only.
 pub const KIND: u64 = 2;
 /// The calendar of 2000 to 2099 has no such day.
 pub const DATE: u64 = 3;
@@ -17,7 +17,7 @@ pub const ACCOUNT: u64 = 4;
 pub const UNUSED: u64 = 5;
 /// A word, or the quantity of a partner list, is too small or too large.
 pub const WORD: u64 = 6;
-/// TRANSFER of A to A, or w1 and w2 differ.
+/// TRANSFER of A to A, or w1 and w2 differ; or NOTICE of A to A.
 pub const TRANSFER: u64 = 7;
 
 /// Archive: the header is wrong, or the directory is cut off.
@@ -42,12 +42,13 @@ pub const NOT_BEGUN: u64 = 21;
 pub const OTHER_DATE: u64 = 22;
 /// The kind is not for this day.
 pub const WRONG_DAY: u64 = 23;
-/// The account is open and the kind ENROL, or neither; or the seller of a
-/// partner list is not open.
+/// The account is open and the kind ENROL, or neither; or one of two parties,
+/// or the seller of a partner list, is not open.
 pub const OPEN: u64 = 24;
 /// The supplier is not served under EFBS.
 pub const STAYS: u64 = 25;
-/// DELIVER or CONFISCATED was posted today, or MEASURE or USAGE this month.
+/// DELIVER or CONFISCATED was posted today, or MEASURE or USAGE this month; or
+/// a letter of the account's own stands.
 pub const SECOND: u64 = 26;
 /// A closing finds an open account without a posting that it needs.
 pub const LACKING: u64 = 27;
@@ -68,3 +69,6 @@ pub const NOT_AHEAD: u64 = 33;
 pub const NO_PLACE: u64 = 34;
 /// HOLIDAY names the last business day from the 25th of its month on.
 pub const NO_BUSINESS_DAY: u64 = 35;
+
+/// A new ledger takes no TRANSFER any more.
+pub const RETIRED: u64 = 36;

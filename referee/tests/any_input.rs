@@ -6,7 +6,7 @@ mod common;
 use common::*;
 use referee::{
     check, entry_number, measurement_day, panel, panel_line, post, replay, section, write,
-    year_sheet, Account, Answer, Entry, Holidays, Ledger, Named, Posting, Terms,
+    year_sheet, Account, Answer, Date, Entry, Holidays, Ledger, Named, Notice, Posting, Terms,
 };
 
 /// Around the ends of a range, inside it, or rarely anywhere.
@@ -75,7 +75,18 @@ fn any_account(random: &mut Random) -> Account {
     account.owed = signed(random, -1_000_000_000_000_000, 1_000_000_000_000_000);
     account.violation_days = unsigned(random, 0, 40_000);
     account.confiscation = unsigned(random, 0, 1_000_000_000);
+    account.notice = any_notice(random);
     account
+}
+
+/// Most often none; for some with members that mean nothing.
+fn any_notice(random: &mut Random) -> Notice {
+    Notice {
+        stands: random.chance(3),
+        takes: random.chance(2),
+        other: unsigned(random, 0, 15) as usize,
+        units: unsigned(random, 1, 1_000_000_000),
+    }
 }
 
 /// Terms like the marked ones, or at the ends of their ranges.
@@ -177,7 +188,7 @@ fn any_entry(random: &mut Random, day: Day, accounts: u64) -> Bytes {
     if random.chance(40) {
         return std::array::from_fn(|_| random.next() as u8);
     }
-    let kind = random.below(13) as u8;
+    let kind = random.below(14) as u8;
     let mut a = random.below(accounts) as u8;
     let mut b = random.below(accounts) as u8;
     let mut flags = 0;
@@ -208,16 +219,17 @@ fn any_entry(random: &mut Random, day: Day, accounts: u64) -> Bytes {
             let [year, month, day] = near(random, day).map(|number| number as u32);
             [year, month, day, 0, 0, 0]
         }
+        12 => any_words(random, [UNITS, 0, 0, 0, 0, 0]),
         _ => [0; 6],
     };
     match kind {
         2 => flags = random.below(4) as u8,
         4 if !random.chance(8) => words[1] = words[0],
-        5 => flags = random.below(2) as u8,
+        5 | 12 => flags = random.below(2) as u8,
         8 | 9 | 11 => a = 0,
         _ => {}
     }
-    if kind != 4 {
+    if !matches!(kind, 4 | 12) {
         b = 0;
     }
     let mut bytes = entry(kind, a, b, flags, day, words);
@@ -227,15 +239,76 @@ fn any_entry(random: &mut Random, day: Day, accounts: u64) -> Bytes {
     bytes
 }
 
+/// What the party that a standing letter names may write to its writer: the
+/// counterpart, or a letter that is not quite it.
+fn reply(random: &mut Random, ledger: &Ledger, day: Day) -> Option<Bytes> {
+    let start = random.below(16) as usize;
+    let places = (0..16).map(|step| (start + step) % 16);
+    let standing = |&place: &usize| ledger.accounts[place].notice.stands;
+    let to = places.into_iter().find(standing)?;
+    let held = ledger.accounts[to].notice;
+    let mut bytes = notice(
+        held.other as u8,
+        to as u8,
+        u8::from(!held.takes),
+        day,
+        held.units as u32,
+    );
+    if random.chance(6) {
+        // The writer, the side or the lowest byte of the units.
+        let place = random.pick(&[1, 3, 8]);
+        bytes[place] ^= 1;
+    }
+    Some(bytes)
+}
+
+/// Two open accounts, and a letter between them of less than would break the
+/// limits, of just so much, or of more.
+fn with_a_letter(random: &mut Random, ledger: &mut Ledger) {
+    let [a, b] = random.pick(&[[0, 1], [1, 0], [15, 3], [7, 15]]);
+    let Some(date) = ledger.date() else { return };
+    let (minimum, maximum) = (date.month().minimum(), date.month().maximum());
+    for place in [a, b] {
+        let account = &mut ledger.accounts[place];
+        *account = Account {
+            bank: ((minimum + maximum) / 2 * 62_505) as i64,
+            ..marked_account()
+        };
+    }
+    let room = ((maximum - minimum) / 2 * 62_505).max(1);
+    let units = random.pick(&[1, room / 2 + 1, room, room + 1, 1_000_000_000]);
+    ledger.accounts[a].notice = letter(random.below(2) as u8, b, units);
+}
+
+/// HOLIDAY of a business day of this year's last month, all others of which
+/// from the 25th on the ledger comes to hold.
+fn last_business_day(random: &mut Random, ledger: &mut Ledger, day: Day) -> Bytes {
+    let dates = (25..=31).filter_map(|day_of_month| {
+        let date = Date::new(day.0.into(), 12, day_of_month)?;
+        date.is_weekday().then_some((day.0, 12, date.day() as u8))
+    });
+    let mut dates: Vec<Day> = dates.collect();
+    let last = dates.swap_remove(random.below(dates.len() as u64) as usize);
+    ledger.holidays = held(&dates);
+    holiday(day, last)
+}
+
 #[test]
 fn any_ledger_and_any_bytes() {
     let mut random = Random::new(1);
-    let mut seen = [0_u64; 36];
+    let mut seen = [0_u64; 37];
     let mut differ = 0;
+    let mut fates = Fates::default();
     for _ in 0..200_000 {
         let day = any_day(&mut random);
         let mut ledger = any_ledger(&mut random, day);
-        let bytes = any_entry(&mut random, day, 16);
+        let mut bytes = any_entry(&mut random, day, 16);
+        if random.chance(20) {
+            with_a_letter(&mut random, &mut ledger);
+            bytes = reply(&mut random, &ledger, day).unwrap_or(bytes);
+        } else if random.chance(100) {
+            bytes = last_business_day(&mut random, &mut ledger, day);
+        }
         let before = ledger.clone();
         let in_range = panel(&before).0 == 0;
         let answer = post_checked(&mut ledger, &bytes);
@@ -244,6 +317,8 @@ fn any_ledger_and_any_bytes() {
             0 => {
                 assert_eq!(ledger.is_new, before.is_new);
                 assert_eq!(ledger.holidays, list_after(&before, &bytes));
+                let letters = ledger.accounts.map(|account| account.notice);
+                assert_eq!(letters, letters_after(&before, &bytes, &mut fates));
                 assert!(in_range && panel(&ledger).0 == 0);
                 let (_, figure) = panel(&ledger);
                 assert_eq!(figure, figure_after(&before, &bytes, &answer));
@@ -251,11 +326,13 @@ fn any_ledger_and_any_bytes() {
             1..=7 => assert_eq!(answer.number, entry_number(before.is_new, &bytes)),
             20 => assert!(!in_range),
             33..=35 => assert!(in_range && bytes[0] == 11),
+            36 => assert!(in_range && bytes[0] == 4 && is_retired(&before)),
             _ => assert!(in_range && (21..=29).contains(&answer.number)),
         }
         differ += u64::from(old_and_new_differ(&before, &bytes));
     }
     assert!(differ > 0);
+    assert!(fates.moved > 100 && fates.stood > 100 && fates.cleared > 100);
     for (number, times) in seen.iter().enumerate() {
         // A whole entry is never 1, and 8 to 19 and 30 to 32 are not for
         // postings.
@@ -286,18 +363,67 @@ fn list_after(before: &Ledger, bytes: &[u8]) -> Holidays {
     list
 }
 
-/// Whether the forfeits of old and new are two; else only CONFISCATED and
-/// HOLIDAY may make a difference between the same ledger as an old and as a
-/// new one.
+/// What became of letters.
+#[derive(Default)]
+struct Fates {
+    moved: u64,
+    stood: u64,
+    cleared: u64,
+}
+
+/// The letters that an accepted entry must leave, account by account.
+fn letters_after(before: &Ledger, bytes: &[u8], fates: &mut Fates) -> [Notice; 16] {
+    let mut letters = before.accounts.map(|account| account.notice);
+    match decoded(before.is_new, bytes) {
+        Posting::Enrol { account, .. } => letters[account] = Notice::default(),
+        Posting::CloseDay | Posting::CloseMonth(_) => {
+            for (notice, account) in letters.iter_mut().zip(&before.accounts) {
+                if account.opened {
+                    fates.cleared += u64::from(notice.stands);
+                    *notice = Notice::default();
+                }
+            }
+        }
+        Posting::Notice { writer, letter } => {
+            let counterpart = Notice {
+                takes: !letter.takes,
+                other: writer,
+                ..letter
+            };
+            if letters[letter.other] == counterpart {
+                letters[letter.other] = Notice::default();
+                fates.moved += 1;
+            } else {
+                letters[writer] = letter;
+                fates.stood += 1;
+            }
+        }
+        _ => {}
+    }
+    letters
+}
+
+/// New, and on 1 April 2027 or later.
+fn is_retired(ledger: &Ledger) -> bool {
+    ledger.is_new && (ledger.year, ledger.month) >= (2027, 4)
+}
+
+/// Whether the forfeits of old and new are two; else only the later kinds and
+/// a retired TRANSFER may make a difference between the same ledger as an old
+/// and as a new one.
 fn old_and_new_differ(before: &Ledger, bytes: &Bytes) -> bool {
     let [old, new] = [false, true].map(|is_new| {
         let mut ledger = told(is_new, before.clone());
         let answer = post_checked(&mut ledger, bytes);
         (answer, ledger)
     });
-    if matches!(bytes[0], 10 | 11) {
+    if matches!(bytes[0], 10..=12) {
         assert_eq!(old.0.number, 2);
         assert_eq!(old.1, told(false, before.clone()));
+        return false;
+    }
+    if new.0.number == 36 {
+        assert!(matches!(old.0.number, 0 | 24 | 28));
         return false;
     }
     let forfeits = [old.0, new.0].map(|answer| answer.reports.map(|report| report.forfeit));
@@ -430,6 +556,14 @@ fn any_list(is_new: bool, random: &mut Random, days: u64) -> Vec<Bytes> {
                 let bytes = transfer(a, to, day, 1 + random.below(100_000) as u32);
                 say(&mut ledger, bytes);
             }
+            if random.chance(8) {
+                let (to, flag) = (random.below(5) as u8, random.below(2) as u8);
+                let bytes = notice(a, to, flag, day, 1 + random.below(100_000) as u32);
+                say(&mut ledger, bytes);
+            }
+            if let Some(bytes) = reply(random, &ledger, day).filter(|_| random.chance(4)) {
+                say(&mut ledger, bytes);
+            }
             if ledger.holidays.is_measurement_day(date) {
                 let m = (account.mdq + random.below(3_000)).saturating_sub(1_400);
                 say(&mut ledger, measure(a, day, m.min(300_000) as u32));
@@ -470,11 +604,15 @@ fn any_list_adds_up() {
         // Meters are read later where holidays make them.
         assert_eq!(seen.moved > 0, is_new);
         assert_eq!(seen.full > 0, is_new);
+        // Gas moves by two letters, and some letters wait in vain.
+        assert_eq!(seen.moved_by_letters > 0, is_new);
+        assert_eq!(seen.in_vain > 0, is_new);
     }
 }
 
 /// What the lists have come to: violations, how much of an excess was
-/// forfeited, measurements on a moved day, and ledgers with sixteen holidays.
+/// forfeited, measurements on a moved day, ledgers with sixteen holidays,
+/// pairs of letters, and letters that a closing emptied.
 #[derive(Default)]
 struct Seen {
     masks: u64,
@@ -483,6 +621,8 @@ struct Seen {
     none: u64,
     moved: u64,
     full: u64,
+    moved_by_letters: u64,
+    in_vain: u64,
 }
 
 fn list_adds_up(is_new: bool, seed: u64, seen: &mut Seen) {
@@ -492,6 +632,7 @@ fn list_adds_up(is_new: bool, seed: u64, seen: &mut Seen) {
     let mut struck = Ledger::fresh(is_new);
     let mut sums = [Sums::default(); 16];
     let mut named = Vec::new();
+    let mut waiting = Vec::new();
     let mut retainage = 0;
     let mut accepted = 0;
     for bytes in &list {
@@ -502,6 +643,8 @@ fn list_adds_up(is_new: bool, seed: u64, seen: &mut Seen) {
         accepted += 1;
         assert_eq!(post(&mut struck, bytes), answer);
         see_holidays(&mut named, bytes, &ledger, seen);
+        add_letter(&mut sums, &mut waiting, decoded(is_new, bytes), seen);
+        letters_stand(&waiting, &ledger);
         add_posting(&mut sums, decoded(is_new, bytes), &mut retainage);
         for ((sum, report), account) in sums.iter_mut().zip(&answer.reports).zip(&ledger.accounts) {
             if let Some(p) = forfeits_above(bytes) {
@@ -546,6 +689,44 @@ fn see_holidays(named: &mut Vec<[u64; 3]>, bytes: &Bytes, after: &Ledger, seen: 
     let held = after.holidays.dates.map(|d| [d.year, d.month, d.day]);
     assert_eq!(held, places);
     assert_eq!(after.holidays.count, named.len() as u64);
+}
+
+/// Writer, other party, whether the writer takes, and the units.
+type Letter = (usize, usize, bool, u64);
+
+/// The letters that wait by the list so far, from its accepted entries alone,
+/// and what a second letter moves.
+fn add_letter(sums: &mut [Sums; 16], waiting: &mut Vec<Letter>, posting: Posting, seen: &mut Seen) {
+    match posting {
+        Posting::CloseDay | Posting::CloseMonth(_) => {
+            seen.in_vain += waiting.len() as u64;
+            waiting.clear();
+        }
+        Posting::Notice { writer, letter } => {
+            let (other, takes, units) = (letter.other, letter.takes, letter.units);
+            let first = (other, writer, !takes, units);
+            let Some(place) = waiting.iter().position(|&letter| letter == first) else {
+                waiting.push((writer, other, takes, units));
+                return;
+            };
+            waiting.remove(place);
+            let moved = if takes { units as i64 } else { -(units as i64) };
+            sums[writer].bank += moved;
+            sums[other].bank -= moved;
+            seen.moved_by_letters += 1;
+        }
+        _ => {}
+    }
+}
+
+/// Those are just the letters in the ledger's accounts, one in each at most.
+fn letters_stand(waiting: &[Letter], ledger: &Ledger) {
+    let mut letters = [Notice::default(); 16];
+    for &(writer, other, takes, units) in waiting {
+        assert!(!letters[writer].stands);
+        letters[writer] = letter(u8::from(takes), other, units);
+    }
+    assert_eq!(ledger.accounts.map(|account| account.notice), letters);
 }
 
 fn sums_hold(sums: &[Sums; 16], ledger: &Ledger) {

@@ -218,7 +218,7 @@ fn the_writer_is_told() {
     };
     assert_eq!(refused(false, &list), (2, 1));
     assert_eq!(write(true, &list, &mut [0; 80]).length, 80);
-    for kind in [0, 12, 255] {
+    for kind in [0, 13, 255] {
         let mut list = list.clone();
         list[32] = kind;
         assert_eq!(refused(true, &list), (2, 1));
@@ -281,7 +281,7 @@ fn entries_of_a_new_archive() {
     // The kind, the date, A, the flags, w2 and w1 of the last entry.
     for (place, value, number) in [
         (0, 10, 0),
-        (0, 12, 2),
+        (0, 13, 2),
         (7, 32, 3),
         (1, 16, 4),
         (3, 1, 5),
@@ -321,7 +321,7 @@ fn replays_of_refused_archives() {
             refused(&archive[..length], 9, is_new);
         }
         let mut unknown = archive.clone();
-        unknown[16 + 32] = 12;
+        unknown[16 + 32] = 13;
         refused(&unknown, 2, is_new);
         assert_eq!(replay(&unknown).index, 1);
         for value in [0, 48, 51, 255] {

@@ -107,9 +107,9 @@ fn numbers_2_to_5() {
     assert_eq!(number(&ledger, &holiday_words((1, 2, 3), [0; 3])), 2);
     ledger.holidays.count = 17;
     assert_eq!(number(&ledger, &bytes), 2);
-    // The next kind is none in a new ledger either.
+    // A kind above 12 is none in a new ledger either.
     let mut bytes = bytes;
-    bytes[0] = 12;
+    bytes[0] = 13;
     assert_eq!(number(&new_on(day), &bytes), 2);
 }
 
@@ -697,11 +697,19 @@ fn other_kinds() -> Vec<(Ledger, Bytes)> {
         (two.clone(), trade(0, 0, TODAY, 100)),
         (two.clone(), trade(0, 1, TODAY, 100)),
         (new_on(measuring), measure(0, measuring, 4_200)),
-        (two, usage(0, TODAY, 100)),
+        (two.clone(), usage(0, TODAY, 100)),
         (ready.clone(), close_day(TODAY)),
         (told(true, ready), close_day(TODAY)),
         (new_on(JANUARY), confiscated(0, JANUARY, 5)),
+        (two.clone(), notice(0, 1, GIVES, TODAY, 100)),
+        (two_letters(two), notice(0, 1, GIVES, TODAY, 100)),
     ]
+}
+
+/// The same with a letter that waits for the other one.
+fn two_letters(mut ledger: Ledger) -> Ledger {
+    ledger.accounts[1].notice = letter(TAKES, 0, 100);
+    ledger
 }
 
 #[test]

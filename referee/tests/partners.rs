@@ -386,7 +386,8 @@ fn refusals_in_their_order() {
 /// different headrooms, so that some are equal.
 fn any_ledger(random: &mut Random, quantity: i64) -> Ledger {
     let month = 1 + random.below(12) as u8;
-    let mut ledger = ledger_on((2026, month, 1 + random.below(28) as u8));
+    let year = random.pick(&[2026, 2026, 2027, 2099]);
+    let mut ledger = ledger_on((year, month, 1 + random.below(28) as u8));
     ledger.is_new = random.chance(2);
     ledger.begun = !random.chance(50);
     let (minimum, maximum) = BAND[usize::from(month) - 1];
@@ -412,15 +413,32 @@ fn any_ledger(random: &mut Random, quantity: i64) -> Ledger {
     ledger
 }
 
-/// A member is whom a TRANSFER of today would reach, and none is named twice.
+/// A member is whom a TRANSFER of today would reach, where there is one, and
+/// whom two letters would reach in a new ledger; none is named twice. Letters
+/// of the two stand in no ledger here.
 fn is_of_transfers(ledger: &Ledger, list: &PartnerList, seller: u8, quantity: u32) {
     let day = (ledger.year as u16, ledger.month as u8, ledger.day as u8);
     let members = &list.accounts[..list.count];
+    let retired = ledger.is_new && day >= (2027, 4, 1);
     for other in 0..16 {
-        let bytes = transfer(seller, other, day, quantity);
-        let number = post(&mut ledger.clone(), &bytes).number;
         let times = members.iter().filter(|&&member| member == other.into());
-        assert_eq!(times.count(), usize::from(number == 0), "{other} {number}");
+        let times = times.count();
+        let single = [transfer(seller, other, day, quantity)];
+        let gives = notice(seller, other, GIVES, day, quantity);
+        let takes = notice(other, seller, TAKES, day, quantity);
+        let mut ways: Vec<&[Bytes]> = Vec::new();
+        let pairs = [[gives, takes], [takes, gives]];
+        if !retired {
+            ways.push(&single);
+        }
+        if ledger.is_new {
+            ways.extend(pairs.iter().map(|pair| &pair[..]));
+        }
+        for way in ways {
+            let mut ledger = ledger.clone();
+            let accepted = way.iter().all(|bytes| post(&mut ledger, bytes).number == 0);
+            assert_eq!(times, usize::from(accepted), "{other} {way:?}");
+        }
     }
 }
 

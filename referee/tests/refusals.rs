@@ -36,6 +36,7 @@ fn one_of_each_kind(is_new: bool) -> Vec<Bytes> {
     if is_new {
         kinds.push(confiscated(15, START, 1_000_000_000));
         kinds.push(holiday_words(START, [u32::MAX; 3]));
+        kinds.push(notice(15, 0, TAKES, START, 1_000_000_000));
     }
     kinds
 }
@@ -48,7 +49,7 @@ fn entries_of_each_kind_pass() {
         }
     }
     assert_eq!(one_of_each_kind(false).len(), 9);
-    assert_eq!(one_of_each_kind(true).len(), 11);
+    assert_eq!(one_of_each_kind(true).len(), 12);
 }
 
 #[test]
@@ -84,7 +85,7 @@ fn numbers_2_and_3() {
 #[test]
 fn kinds_of_old_and_new() {
     for kind in 0..=255 {
-        for (is_new, last) in [(false, 9), (true, 11)] {
+        for (is_new, last) in [(false, 9), (true, 12)] {
             let unknown = !(1..=last).contains(&kind);
             // All else right, or as good as, and then all else wrong.
             let bytes = with(close_day(START), 0, kind);
@@ -132,19 +133,19 @@ fn confiscated_as_an_entry() {
 fn used_and_unused(is_new: bool, bytes: Bytes) {
     let number = |place, value| entry_number(is_new, &with(bytes, place, value));
     let kind = bytes[0];
-    let uses_a = (2..=7).contains(&kind) || kind == 10;
-    let uses_b = kind == 4;
+    let uses_a = (2..=7).contains(&kind) || matches!(kind, 10 | 12);
+    let uses_b = matches!(kind, 4 | 12);
     assert_eq!(number(1, 16), if uses_a { 4 } else { 5 });
     assert_eq!(number(2, 16), if uses_b { 4 } else { 5 });
     let flags = match kind {
         2 => 3,
-        5 => 1,
+        5 | 12 => 1,
         _ => 0,
     };
     for value in 0..=255 {
         assert_eq!(number(3, value), if value <= flags { 0 } else { 5 });
     }
-    let words = [6, 2, 2, 2, 1, 1, 1, 0, 4, 1, 3][usize::from(kind) - 1];
+    let words = [6, 2, 2, 2, 1, 1, 1, 0, 4, 1, 3, 1][usize::from(kind) - 1];
     for word in words + 1..=6 {
         for place in 0..4 {
             assert_eq!(number(4 + 4 * word + place, 1), 5);

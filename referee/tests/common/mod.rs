@@ -1,7 +1,7 @@
 //! Entries by hand, and a month that runs by itself.
 #![allow(dead_code)]
 
-use referee::{post, Account, Answer, Date, Holidays, Ledger, Named, Posting};
+use referee::{post, Account, Answer, Date, Holidays, Ledger, Named, Notice, Posting};
 
 pub type Day = (u16, u8, u8);
 pub type Bytes = [u8; 32];
@@ -79,6 +79,25 @@ pub fn holiday(day: Day, named: Day) -> Bytes {
 
 pub fn holiday_words(day: Day, [year, month, d]: [u32; 3]) -> Bytes {
     entry(11, 0, 0, 0, day, [year, month, d, 0, 0, 0])
+}
+
+/// The flag of NOTICE.
+pub const GIVES: u8 = 0;
+pub const TAKES: u8 = 1;
+
+/// NOTICE: the first account writes to the second.
+pub fn notice(a: u8, b: u8, flag: u8, day: Day, units: u32) -> Bytes {
+    entry(12, a, b, flag, day, [units, 0, 0, 0, 0, 0])
+}
+
+/// A letter that stands.
+pub fn letter(flag: u8, other: usize, units: u64) -> Notice {
+    Notice {
+        stands: true,
+        takes: flag == TAKES,
+        other,
+        units,
+    }
 }
 
 pub fn named((year, month, day): Day) -> Named {

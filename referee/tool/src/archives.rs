@@ -37,7 +37,11 @@ pub fn read(random: &mut Random, run: &mut Run, archive: &[u8]) -> Same {
 fn count(run: &mut Run, archive: &[u8], is_new: bool, (number, index): (u64, usize)) {
     let kind_at = |index: usize| archive.get(entries_start(archive) + 32 * index);
     let reached = &mut run.reached;
-    for (kind, name) in [(10, "kind 10 in an archive"), (11, "kind 11 in an archive")] {
+    for (kind, name) in [
+        (10, "kind 10 in an archive"),
+        (11, "kind 11 in an archive"),
+        (12, "kind 12 in an archive"),
+    ] {
         let unknown = number == 2 && !is_new && kind_at(index) == Some(&kind);
         let known = number == 0 && is_new && has(entries_of(archive), kind);
         reached.event(name, "old, 2", unknown);
@@ -218,6 +222,7 @@ fn count_written(run: &mut Run, is_new: bool, list: &[u8], written: &referee::Wr
     for (kind, name) in [
         (10, "kind 10 in a list to write"),
         (11, "kind 11 in a list to write"),
+        (12, "kind 12 in a list to write"),
     ] {
         let unknown = number == 2 && !is_new && list.get(at) == Some(&kind);
         let known = number == 0 && is_new && has(list, kind);

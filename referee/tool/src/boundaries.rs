@@ -8,6 +8,7 @@ use crate::gas_year::TERMS;
 use crate::ledgers::{any_date, any_terms, ready_account, ready_ledger};
 use crate::measuring::{one_year_of_days, runs_of_three, steps};
 use crate::naming::namings;
+use crate::pairs::letters;
 use crate::random::Random;
 use crate::run::{Run, Same};
 use referee::{Account, Date, Ledger};
@@ -18,6 +19,7 @@ pub fn case(random: &mut Random, run: &mut Run) -> Same {
     }
     confiscations(random, run)?;
     namings(random, run)?;
+    letters(random, run)?;
     one_year_of_days(random, run)?;
     steps(random, run)?;
     runs_of_three(random, run)?;
@@ -53,7 +55,7 @@ pub fn marked(is_new: bool, date: Date) -> Ledger {
 }
 
 /// One valid entry of each kind.
-fn examples(date: Date) -> [Bytes; 11] {
+fn examples(date: Date) -> [Bytes; 12] {
     let day = day_of(date);
     [
         entries::terms(day, TERMS),
@@ -67,6 +69,7 @@ fn examples(date: Date) -> [Bytes; 11] {
         entries::close_month(day, [3_000, 3_100, 2_900, 50]),
         entries::confiscated(0, day, 1_000),
         entries::holiday(day, [2026, 12, 25]),
+        entries::notice(0, 15, 1, day, 1),
     ]
 }
 

@@ -48,6 +48,7 @@ fn account_to_library(account: &referee::Account) -> library::Account {
             v2: account.v2,
             confiscated: account.confiscated,
             confiscation: account.confiscation,
+            notice: notice_to_library(&account.notice),
         },
         bank: account.bank,
         mdq: account.mdq,
@@ -65,6 +66,16 @@ fn account_to_library(account: &referee::Account) -> library::Account {
         carry: account.carry,
         owed: account.owed,
         violation_days: account.violation_days,
+    }
+}
+
+/// All members, those of none that stands too.
+fn notice_to_library(notice: &referee::Notice) -> library::Notice {
+    library::Notice {
+        stands: notice.stands,
+        takes: notice.takes,
+        other: notice.other,
+        units: notice.units,
     }
 }
 
@@ -139,6 +150,12 @@ fn account_to_referee(account: &library::Account) -> referee::Account {
         owed: account.owed,
         violation_days: account.violation_days,
         confiscation: today.confiscation,
+        notice: referee::Notice {
+            stands: today.notice.stands,
+            takes: today.notice.takes,
+            other: today.notice.other,
+            units: today.notice.units,
+        },
         delivered: today.delivered,
         measured: month.measured,
         metered: month.metered,
@@ -204,9 +221,10 @@ mod tests {
         (a.mddq, a.bcq, a.net, a.sales, a.purchases) = (907, 908, 909, 910, 911);
         (a.cash_ins, a.cash_outs, a.usage) = (912, 913, 914);
         (a.carry, a.owed, a.violation_days, a.confiscation) = (915, 916, 917, 918);
-        ledger.holidays.count = 919;
+        (a.notice.other, a.notice.units) = (919, 920);
+        ledger.holidays.count = 921;
         for (place, date) in (0..).zip(&mut ledger.holidays.dates) {
-            let first = 920 + 3 * place;
+            let first = 922 + 3 * place;
             (date.year, date.month, date.day) = (first, first + 1, first + 2);
         }
         let there = format!("{:#?}", to_library(&ledger));
@@ -214,7 +232,7 @@ mod tests {
             let lines = text.lines().map(|line| line.trim().to_string());
             lines.filter(|line| line.contains(": 9")).collect()
         };
-        assert_eq!(names(&there).len(), 18 + 1 + 3 * 16);
+        assert_eq!(names(&there).len(), 20 + 1 + 3 * 16);
         assert_eq!(names(&there), names(&format!("{ledger:#?}")));
         assert_eq!(to_referee(&to_library(&ledger)), ledger);
     }
@@ -238,7 +256,7 @@ mod tests {
 
     #[test]
     fn marks_keep_their_names() {
-        for place in 0..11 {
+        for place in 0..13 {
             let mut ledger = referee::Ledger::fresh(false);
             let a = &mut ledger.accounts[15];
             let marks = [
@@ -253,6 +271,8 @@ mod tests {
                 &mut a.v2,
                 &mut a.confiscated,
                 &mut a.excused,
+                &mut a.notice.stands,
+                &mut a.notice.takes,
             ];
             *marks.into_iter().nth(place).unwrap() = true;
             let text = format!("{:#?}", to_library(&ledger));

@@ -23,7 +23,7 @@ pub fn case(random: &mut Random, run: &mut Run) -> Same {
     let mut list = any_list(random, is_new);
     archives::write(random, run, !is_new, &list)?;
     if !is_new {
-        // No old archive holds CONFISCATED or HOLIDAY: refused, and then without.
+        // No old archive holds CONFISCATED, HOLIDAY or NOTICE: refused, and then without.
         archives::write(random, run, is_new, &list)?;
         list = entries::for_old(&list);
     }
@@ -71,16 +71,18 @@ fn any_list(random: &mut Random, is_new: bool) -> Vec<u8> {
         wild: true,
         refusals: true,
         holidays: random.one_in(2),
+        letters: random.one_in(2),
     };
     let planned = make(random, plan);
     let whole = year || random.one_in(3);
     let kept = planned.iter().filter(|_| whole || random.one_in(6));
     let mut list: Vec<u8> = kept.flat_map(|planned| planned.bytes).collect();
-    for _ in 0..random.below(4) {
+    for _ in 0..random.below(5) {
         let at = 32 * random.below(list.len() as u64 / 32 + 1) as usize;
-        let bytes = match random.below(2) {
+        let bytes = match random.below(3) {
             0 => any_confiscated(random),
-            _ => any_holiday(random),
+            1 => any_holiday(random),
+            _ => any_notice(random),
         };
         list.splice(at..at, bytes);
     }
@@ -106,6 +108,15 @@ fn any_holiday(random: &mut Random) -> Bytes {
         _ => [0; 3].map(|_: u32| random.next() as u32),
     };
     entries::holiday(entries::day_of(today), words)
+}
+
+/// Between any two accounts: whether they are open, and what stands, is for the ledger to say.
+fn any_notice(random: &mut Random) -> Bytes {
+    let day = entries::day_of(any_date(random));
+    let a = random.below(16) as u8;
+    let b = (a + 1 + random.below(15) as u8) % 16;
+    let units = random.pick(&[1, 5, 1_000_000_000]);
+    entries::notice(a, b, random.below(2) as u8, day, units)
 }
 
 /// Up to and past 1,200 sections: number 11 of the writer.

@@ -16,13 +16,15 @@ pub fn spoil_entry(random: &mut Random, bytes: &mut [u8], start: usize) {
         random.below(8)
     };
     bytes[entry + at as usize] =
-        random.pick(&[0, 1, 2, 3, 4, 8, 9, 10, 11, 13, 16, 31, 32, 200, 255]);
+        random.pick(&[0, 1, 2, 3, 4, 8, 9, 10, 11, 12, 13, 16, 31, 32, 200, 255]);
     if random.one_in(4) {
-        // A transfer to itself or of unlike words: number 7.
-        let day = (2026, 4, 30);
-        let mut transfer: Bytes = entries::transfer(1, random.pick(&[1, 2]), day, 5);
+        // A transfer to itself or of unlike words, or a letter to itself: number 7.
+        let (day, other) = ((2026, 4, 30), random.pick(&[1, 2]));
+        let mut transfer: Bytes = entries::transfer(1, other, day, 5);
         transfer[12] = random.pick(&[5, 6]);
-        bytes[entry..entry + 32].copy_from_slice(&transfer);
+        let letter = entries::notice(1, other, random.below(2) as u8, day, 5);
+        let spoilt = random.pick(&[transfer, transfer, transfer, letter]);
+        bytes[entry..entry + 32].copy_from_slice(&spoilt);
     }
 }
 

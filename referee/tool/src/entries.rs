@@ -76,14 +76,18 @@ pub fn holiday(day: Day, words: [u32; 3]) -> Bytes {
     entry(11, [0, 0], 0, day, &words)
 }
 
+pub fn notice(a: u8, b: u8, flag: u8, day: Day, units: u32) -> Bytes {
+    entry(12, [a, b], flag, day, &[units])
+}
+
 /// Whether a list has an entry of this kind.
 pub fn has(list: &[u8], kind: u8) -> bool {
     list.chunks(32).any(|entry| entry[0] == kind)
 }
 
-/// What an old archive can hold of a list: no CONFISCATED and no HOLIDAY.
+/// What an old archive can hold of a list: no CONFISCATED, HOLIDAY or NOTICE.
 pub fn for_old(list: &[u8]) -> Vec<u8> {
-    let others = list.chunks(32).filter(|entry| !matches!(entry[0], 10 | 11));
+    let others = list.chunks(32).filter(|entry| !matches!(entry[0], 10..=12));
     others.flatten().copied().collect()
 }
 
@@ -105,8 +109,9 @@ mod tests {
         let day = (2026, 1, 31);
         let (amount, date) = (confiscated(3, day, 5), holiday(day, [2026, 12, 25]));
         let closing = close_month(day, [3_000; 4]);
-        let list = [amount, closing, date, amount, close_day(day), date].concat();
-        assert!(has(&list, 10) && has(&list, 11) && !has(&closing, 11));
+        let letter = notice(3, 5, 1, day, 7);
+        let list = [amount, closing, date, letter, close_day(day), date].concat();
+        assert!(has(&list, 12) && has(&list, 10) && has(&list, 11) && !has(&closing, 11));
         assert_eq!(for_old(&list), [closing, close_day(day)].concat());
     }
 }

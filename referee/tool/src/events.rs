@@ -25,7 +25,10 @@ const FAULTS: Columns = &["17 or more", "no date", "no business day"];
 /// Days on which a month can be measured.
 const DAYS: Columns = &["25", "26", "27", "28", "29", "30", "31"];
 
-const GROUPS: [(&str, Rows); 8] = [
+/// What can be wrong with a letter that stands.
+const LETTER_FAULTS: Columns = &["other party", "no units", "too many units"];
+
+const GROUPS: [(&str, Rows); 10] = [
     (
         "in accepted closings and elsewhere",
         &[
@@ -172,6 +175,135 @@ const GROUPS: [(&str, Rows); 8] = [
                     "USAGE",
                     "CLOSE DAY",
                     "CONFISCATED",
+                    "NOTICE",
+                ],
+            ),
+        ],
+    ),
+    (
+        "NOTICE, and TRANSFER beside it",
+        &[
+            ("letter stands, its writer", &["gives", "takes"]),
+            (
+                "letter stands, as the other party's",
+                &[
+                    "is none",
+                    "is none but would fit",
+                    "names a third",
+                    "has the same side",
+                    "is 1 unit off",
+                    "is further off",
+                ],
+            ),
+            ("letter stands, though a third's would fit", &["new"]),
+            ("gas moves by the letter of", &["the giver", "the taker"]),
+            (
+                "gas moves to the",
+                &["giver's minimum", "taker's maximum", "both", "10^9 moved"],
+            ),
+            ("gas moves on a day", &["with TRANSFER", "without TRANSFER"]),
+            ("gas moves, members of none left", &["new"]),
+            (
+                "24 to NOTICE, not open is the",
+                &["writer", "other party", "both"],
+            ),
+            (
+                "26 to a letter that",
+                &[
+                    "would match",
+                    "would match none",
+                    "is the one that stands",
+                    "names another party",
+                ],
+            ),
+            ("28 to the letter of", &["the giver", "the taker"]),
+            (
+                "28 to a second letter by",
+                &[
+                    "1 unit at the minimum",
+                    "1 unit at the maximum",
+                    "both limits",
+                ],
+            ),
+            (
+                "after 28 to a second letter",
+                &[
+                    "another stands",
+                    "one to a third stands",
+                    "other party: 26",
+                    "the same moves",
+                ],
+            ),
+            (
+                "a refusal of NOTICE that hides another",
+                &[
+                    "20 over 24",
+                    "21 over 24",
+                    "22 over 24",
+                    "22 over 26",
+                    "24 over 26",
+                    "26 over 28",
+                ],
+            ),
+            ("36 to TRANSFER", &["1 April 2027", "later"]),
+            (
+                "TRANSFER accepted",
+                &[
+                    "new, 31 March 2027",
+                    "new, earlier",
+                    "old, 1 April 2027",
+                    "old, later",
+                ],
+            ),
+            (
+                "numbers around 36",
+                &[
+                    "20 over 36",
+                    "21 over 36",
+                    "22 over 36",
+                    "36 over 24",
+                    "36 over 28",
+                    "36 alone",
+                ],
+            ),
+            ("TRANSFER of gas for which a letter waits", &["accepted"]),
+            (
+                "gas moved twice, a TRANSFER between letters",
+                &["giver's first", "taker's first"],
+            ),
+        ],
+    ),
+    (
+        "letters that stand",
+        &[
+            ("20 to NOTICE by a letter alone", LETTER_FAULTS),
+            ("20 to another kind by a letter alone", AGES),
+            ("20 by a letter alone, not begun", LETTER_FAULTS),
+            ("20 by the letter of an account", &["open", "not open"]),
+            ("20 of the panel by a letter alone", LETTER_FAULTS),
+            ("20 of a partner list by a letter alone", LETTER_FAULTS),
+            ("not 20 by members of none that stands", LETTER_FAULTS),
+            ("letter cleared by CLOSE DAY", AGES),
+            ("letter cleared by CLOSE MONTH", AGES),
+            ("members of none cleared by a closing", AGES),
+            ("letter kept at a refused closing", AGES),
+            ("letter kept by an account not open", AGES),
+            ("letter forgotten by ENROL", AGES),
+            ("members of none forgotten by ENROL", AGES),
+            ("letter to the one that ENROL opens", AGES),
+            (
+                "letter left by",
+                &[
+                    "TERMS",
+                    "ENROL",
+                    "DELIVER",
+                    "TRANSFER",
+                    "TRADE",
+                    "MEASURE",
+                    "USAGE",
+                    "CONFISCATED",
+                    "HOLIDAY",
+                    "NOTICE",
                 ],
             ),
         ],
@@ -183,11 +315,14 @@ const GROUPS: [(&str, Rows); 8] = [
             ("kind 10 in a list to write", &["old, 2", "new, accepted"]),
             ("kind 11 in an archive", &["old, 2", "new, accepted"]),
             ("kind 11 in a list to write", &["old, 2", "new, accepted"]),
+            ("kind 12 in an archive", &["old, 2", "new, accepted"]),
+            ("kind 12 in a list to write", &["old, 2", "new, accepted"]),
             ("8 by the fourth byte, else accepted", AGES),
             ("refused, but opens as new", &["4 to 7 bytes", "longer"]),
             ("year sheet not all 0", AGES),
             ("CONFISCATED accepted in a year's archive", &["new"]),
             ("HOLIDAY accepted in a year's archive", &["new"]),
+            ("NOTICE accepted in a year's archive", &["new"]),
             ("MEASURE moved in a year's archive", &["new"]),
             ("one list in both", &["other figures", "other sheet"]),
         ],
@@ -273,6 +408,19 @@ const GROUPS: [(&str, Rows); 8] = [
                 ],
             ),
             ("not listed, but would fit", &["not open", "seller"]),
+            (
+                "listed, and the letters move it",
+                &[
+                    "giver's first",
+                    "taker's first",
+                    "with TRANSFER",
+                    "without TRANSFER",
+                ],
+            ),
+            (
+                "not asked, as a letter stands of",
+                &["the seller", "the other"],
+            ),
             (
                 "headroom of two listed",
                 &[

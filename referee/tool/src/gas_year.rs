@@ -6,8 +6,9 @@ use crate::amounts;
 use crate::confiscation::{excesses, is_day};
 use crate::entries::{self, day_of, Bytes, Day};
 use crate::holidays;
+use crate::letters;
 use crate::random::Random;
-use referee::{Account, Date, Ledger};
+use referee::{Account, Date, Ledger, Notice};
 
 /// A posting, and whether it should be accepted.
 pub struct Planned {
@@ -25,10 +26,12 @@ pub struct Plan {
     pub is_new: bool,
     /// Overdrafts, overfull banks, thresholds, steps up and down, other terms.
     pub wild: bool,
-    /// Some trades and transfers one unit past their limit, some CONFISCATED and HOLIDAY where there can be none.
+    /// Some trades and transfers one unit past their limit, some CONFISCATED, HOLIDAY and NOTICE where there can be none.
     pub refusals: bool,
     /// Some dates are named, if the ledger is new, and the meters then read on other days.
     pub holidays: bool,
+    /// Letters are written, if the ledger is new, and gas then moves by them too.
+    pub letters: bool,
 }
 
 pub struct Maker<'a> {
@@ -134,6 +137,7 @@ impl Maker<'_> {
         for _ in 0..self.random.below(3) {
             self.move_gas(date);
         }
+        self.write_letters(date);
         for account in 0..self.plan.suppliers {
             if self.ledger.holidays.is_measurement_day(date) {
                 let mdq = self.measured(account);
@@ -251,6 +255,74 @@ impl Maker<'_> {
         );
     }
 
+    /// Letters that fit those of the day, nearly fit or stand alone; in an old ledger in vain.
+    fn write_letters(&mut self, date: Date) {
+        let Plan {
+            is_new,
+            letters,
+            refusals,
+            ..
+        } = self.plan;
+        // No draw at all, so that a race's list is the same as it was before this kind.
+        let tries = match (is_new && letters, letters && refusals) {
+            (true, _) => self.random.below(4) / 2,
+            (false, true) => u64::from(self.random.one_in(30)),
+            (false, false) => 0,
+        };
+        for _ in 0..tries {
+            let (writer, letter) = letters::next(self.random, &self.ledger);
+            self.write(date, writer, letter);
+        }
+    }
+
+    /// NOTICE, if it is accepted or a refusal is meant.
+    fn write(&mut self, date: Date, writer: usize, letter: Notice) {
+        if writer == letter.other {
+            return;
+        }
+        let valid = self.plan.is_new && letters::would_pass(&self.ledger, writer, &letter);
+        if valid || self.plan.refusals {
+            self.push(letters::written(writer, &letter, day_of(date)), valid);
+        }
+    }
+
+    /// A transfer: by a TRANSFER, which may be retired, or in a new ledger by two letters.
+    fn transfer(&mut self, date: Date, parties: [u8; 2], units: u32, valid: bool) {
+        let Plan {
+            is_new,
+            letters,
+            refusals,
+            ..
+        } = self.plan;
+        let bytes = entries::transfer(parties[0], parties[1], day_of(date), units);
+        let retired = letters::is_retired(is_new, date.year(), date.month().number());
+        // An old ledger makes no draw here either.
+        let by_letters = is_new && letters && (retired || self.random.one_in(2));
+        if !retired && !by_letters {
+            self.push(bytes, valid);
+        } else if retired && refusals && self.random.one_in(4) {
+            self.push(bytes, false);
+        }
+        if by_letters {
+            self.write_both(date, parties, units);
+        }
+    }
+
+    /// The letters of both parties, in either order.
+    fn write_both(&mut self, date: Date, [giver, taker]: [u8; 2], units: u32) {
+        let [giver, taker] = [giver, taker].map(usize::from);
+        let mut letters = [
+            (giver, letters::letter(letters::GIVES, taker, units.into())),
+            (taker, letters::letter(letters::TAKES, giver, units.into())),
+        ];
+        if self.random.one_in(2) {
+            letters.reverse();
+        }
+        for (writer, letter) in letters {
+            self.write(date, writer, letter);
+        }
+    }
+
     /// A trade or a transfer within its limits, at equality now and then, or one past.
     fn move_gas(&mut self, date: Date) {
         let (a, b) = (self.any_account(), self.any_account());
@@ -274,11 +346,10 @@ impl Maker<'_> {
             return;
         }
         let (day, units) = (day_of(date), units as u32);
-        let bytes = match kind {
-            2 => entries::transfer(a, b, day, units),
-            flag => entries::trade(a, flag as u8, day, units),
-        };
-        self.push(bytes, !past);
+        match kind {
+            2 => self.transfer(date, [a, b], units, !past),
+            flag => self.push(entries::trade(a, flag as u8, day, units), !past),
+        }
     }
 
     fn any_account(&mut self) -> u8 {
@@ -302,7 +373,7 @@ impl Maker<'_> {
 mod tests {
     use super::*;
     use crate::confiscation::KIND;
-    use std::collections::BTreeMap;
+    use std::collections::{BTreeMap, BTreeSet};
 
     const CALM: Plan = Plan {
         first_year: 2023,
@@ -312,18 +383,20 @@ mod tests {
         wild: false,
         refusals: false,
         holidays: false,
+        letters: true,
     };
 
-    /// The numbers that CONFISCATED gets, HOLIDAY and all others, each with how often.
-    fn holds(plan: Plan, seed: u64) -> [BTreeMap<u64, usize>; 3] {
+    /// The numbers that CONFISCATED gets, HOLIDAY, all others and NOTICE, each with how often.
+    fn holds(plan: Plan, seed: u64) -> [BTreeMap<u64, usize>; 4] {
         let mut ledger = Ledger::fresh(plan.is_new);
-        let mut numbers = [BTreeMap::new(), BTreeMap::new(), BTreeMap::new()];
+        let mut numbers = [const { BTreeMap::new() }; 4];
         for planned in make(&mut Random::new(seed), plan) {
             let number = referee::post(&mut ledger, &planned.bytes).number;
             assert_eq!(number == 0, planned.valid, "{number} {:?}", planned.bytes);
             let place = match planned.bytes[0] {
                 KIND => 0,
                 holidays::KIND => 1,
+                letters::KIND => 3,
                 _ => 2,
             };
             *numbers[place].entry(number).or_default() += 1;
@@ -369,6 +442,7 @@ mod tests {
                 wild: true,
                 refusals: seed % 2 == 0,
                 holidays: seed % 4 < 2,
+                letters: seed % 8 < 4,
                 ..CALM
             };
             let numbers = holds(plan, seed);
@@ -378,14 +452,15 @@ mod tests {
         assert!(meant > 0);
     }
 
-    /// The numbers that years with meant refusals meet: of CONFISCATED, of HOLIDAY, or of all others.
+    /// The numbers that years with meant refusals meet: of CONFISCATED, of HOLIDAY, of all others or of NOTICE.
     fn met(plan: Plan, part: usize) -> Vec<u64> {
         let years = (0..20).map(|seed| holds(plan, seed));
         let numbers: BTreeMap<u64, usize> = years.flat_map(|parts| parts[part].clone()).collect();
         numbers.into_keys().collect()
     }
 
-    /// An old ledger answers 2 alone; a new one accepts, and refuses CONFISCATED by 23, 24 and 26, HOLIDAY by 33 to 35.
+    /// An old ledger answers 2 alone; a new one accepts, and refuses CONFISCATED by 23, 24 and 26, HOLIDAY by 33 to 35,
+    /// NOTICE by 24, 26 and 28.
     #[test]
     fn later_kinds_are_refused_where_it_is_meant() {
         let refused = Plan {
@@ -401,7 +476,35 @@ mod tests {
             let meant = |new: &'static [u64]| if is_new { new } else { &[2] };
             assert_eq!(met(plain, 0), meant(&[0, 23, 24, 26]));
             assert_eq!(met(named, 1), meant(&[0, 33, 34, 35]));
+            assert_eq!(met(plain, 3), meant(&[0, 24, 26, 28]));
         }
+    }
+
+    /// From its April on a new ledger's gas is transferred by letters alone, if by them; an old one's never is.
+    #[test]
+    fn transfers_are_retired() {
+        let by = |is_new, letters| {
+            let plan = Plan {
+                first_year: 2026,
+                months: 24,
+                is_new,
+                letters,
+                ..CALM
+            };
+            let years = (0..20).flat_map(|seed| make(&mut Random::new(seed), plan));
+            let kinds = years.map(|planned| (planned.bytes[0], is_late(&planned.bytes)));
+            let kinds = kinds.filter(|(kind, _)| matches!(*kind, 4 | letters::KIND));
+            kinds.collect::<BTreeSet<_>>()
+        };
+        assert!(by(false, true).into_iter().eq([(4, false), (4, true)]));
+        assert!(by(true, false).into_iter().eq([(4, false)]));
+        let both = [(4, false), (12, false), (12, true)];
+        assert!(by(true, true).into_iter().eq(both));
+    }
+
+    /// On 1 April 2027 or later.
+    fn is_late(bytes: &Bytes) -> bool {
+        (u16::from_le_bytes([bytes[4], bytes[5]]), bytes[6]) >= (2027, 4)
     }
 
     /// Meters are read once a month, on days that holidays move: past the 27th too.
@@ -472,7 +575,7 @@ mod tests {
             wild: true,
             ..CALM
         };
-        let [own, _, others] = holds(plan, 7);
+        let [own, _, others, _] = holds(plan, 7);
         assert_eq!((refused(&own), refused(&others)), (0, 1));
     }
 }

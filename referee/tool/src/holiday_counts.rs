@@ -197,8 +197,8 @@ fn is_littered(list: &Holidays) -> bool {
     rest.iter().any(|&place| place != Named::default())
 }
 
-/// Kinds that leave the list as it is.
-const OTHERS: [&str; 10] = [
+/// Kinds that leave the list as it is, all but CLOSE MONTH and HOLIDAY.
+const OTHERS: [&str; 12] = [
     "TERMS",
     "ENROL",
     "DELIVER",
@@ -209,6 +209,8 @@ const OTHERS: [&str; 10] = [
     "CLOSE DAY",
     "CLOSE MONTH",
     "CONFISCATED",
+    "HOLIDAY",
+    "NOTICE",
 ];
 
 /// What another accepted kind leaves of the list.

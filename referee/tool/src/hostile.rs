@@ -5,6 +5,7 @@ use crate::entries::{self, Bytes, Day};
 use crate::gas_year::TERMS;
 use crate::holidays;
 use crate::ledgers::{any_date, any_day, any_ledger, ready_ledger, set_number, RANGES};
+use crate::letters::{self, FAULTS};
 use crate::random::Random;
 use crate::run::{Run, Same};
 use referee::{Date, Ledger};
@@ -17,6 +18,7 @@ pub fn case(random: &mut Random, run: &mut Run) -> Same {
     one_number_off(random, run)?;
     terms_off(random, run)?;
     list_off(random, run)?;
+    letters_off(random, run)?;
     for _ in 0..20 {
         near_the_end(random, run)?;
     }
@@ -68,7 +70,18 @@ fn aimed(random: &mut Random, ledger: &Ledger) -> Vec<Bytes> {
         entries::confiscated(a, day, units),
         entries::confiscated(b, day, random.pick(&[0, 1, 999_999_999])),
     ];
-    [&others[..], &named(random, ledger, day)].concat()
+    let letter = lettered(random, ledger, [a, b], day);
+    [&others[..], &named(random, ledger, day), &[letter]].concat()
+}
+
+/// NOTICE of the two parties, or one that meets a letter of the ledger, nearly or not at all.
+fn lettered(random: &mut Random, ledger: &Ledger, [a, b]: [u8; 2], day: Day) -> Bytes {
+    if random.one_in(4) {
+        let units = random.pick(&[1, 100, 100_000_000, 1_000_000_000]);
+        return entries::notice(a, b, random.below(2) as u8, day, units);
+    }
+    let (writer, letter) = letters::next(random, ledger);
+    letters::written(writer, &letter, day)
 }
 
 /// HOLIDAY of a date to come, and of anything.
@@ -162,6 +175,22 @@ fn list_off(random: &mut Random, run: &mut Run) -> Same {
         all_kinds(random, run, &ledger)?;
     }
     Ok(())
+}
+
+/// One letter with a fault, of an account that is open or of one that is not, and the same members where none stands.
+fn letters_off(random: &mut Random, run: &mut Run) -> Same {
+    let date = any_date(random);
+    let mut ledger = ready_ledger(random, date);
+    ledger.begun = !random.one_in(4);
+    let open = ledger.accounts.iter().position(|account| account.opened);
+    let any = random.below(16) as usize;
+    let place = open.filter(|_| random.one_in(2)).unwrap_or(any);
+    let fault = random.pick(&FAULTS);
+    ledger.accounts[place].notice = letters::faulty(random, fault);
+    Both::of(&ledger).ask(run, ledger.year, ledger.month)?;
+    all_kinds(random, run, &ledger)?;
+    ledger.accounts[place].notice.stands = false;
+    all_kinds(random, run, &ledger)
 }
 
 /// The measurement days of the ledger's month, of a date in its list and of any month.

@@ -2,6 +2,7 @@
 
 use crate::entries::Day;
 use crate::holidays;
+use crate::letters;
 use crate::random::Random;
 use referee::{Account, Date, Ledger, Terms};
 
@@ -57,7 +58,8 @@ fn unsigned(account: &mut Account, place: usize) -> &mut u64 {
     }
 }
 
-/// A ledger in range, old or new, with holidays or none, and open accounts, most of them ready for their closing.
+/// A ledger in range, old or new, with holidays and letters or none, and open accounts, most of them ready for their
+/// closing.
 pub fn ready_ledger(random: &mut Random, date: Date) -> Ledger {
     let mut ledger = Ledger::fresh(random.one_in(2));
     ledger.begun = true;
@@ -68,6 +70,9 @@ pub fn ready_ledger(random: &mut Random, date: Date) -> Ledger {
     for _ in 0..1 + random.below(3) {
         let place = random.below(16) as usize;
         ledger.accounts[place] = ready_account(random, date);
+    }
+    if random.one_in(4) {
+        letters::put(random, &mut ledger);
     }
     ledger
 }
@@ -192,7 +197,18 @@ pub fn any_ledger(random: &mut Random) -> Ledger {
             set_number(&mut ledger.accounts[at], place, value);
         }
     }
+    any_letters(random, &mut ledger);
     ledger
+}
+
+/// Letters for some, rarely one that is out of range.
+fn any_letters(random: &mut Random, ledger: &mut Ledger) {
+    if random.one_in(3) {
+        letters::put(random, ledger);
+    }
+    if random.one_in(24) {
+        letters::spoil(random, ledger);
+    }
 }
 
 /// A day that exists, often one that a rule names.

@@ -55,7 +55,7 @@ fn header(random: &mut Random, bytes: &mut [u8]) {
 fn small_numbers(random: &mut Random, bytes: &mut [u8]) {
     for (at, byte) in bytes.iter_mut().enumerate() {
         *byte = match at % 32 {
-            0 => 1 + random.below(12) as u8,
+            0 => 1 + random.below(13) as u8,
             4 => 206 + random.below(50) as u8,
             5 => 7,
             6 => 1 + random.below(13) as u8,

@@ -1,10 +1,12 @@
-//! Cases (g): partner lists by the library, by the referee and, of who is listed, by the library's own postings.
+//! Cases (g): partner lists by the library, by the referee and, of who is listed, by the library's own postings: by a
+//! TRANSFER where it is not retired, and by two letters.
 
 use crate::convert;
-use crate::entries;
+use crate::entries::{self, Day};
 use crate::gas_year::{make, Plan};
 use crate::holidays;
 use crate::ledgers::{any_date, any_ledger, ready_account, ready_ledger, set_number, RANGES};
+use crate::letters::{self, GIVES, TAKES};
 use crate::partner_counts;
 use crate::random::Random;
 use crate::run::{same, Run, Same};
@@ -55,28 +57,47 @@ fn ask(run: &mut Run, sort: &'static str, question: &Question) -> Same {
     let (list, own) = (question.library(), question.referee());
     same("partner list", &list, &convert::partner_list(&own))?;
     as_transfers(question, &list)?;
+    as_letters(run, question, &list)?;
     run.reached.event("asked of", sort, true);
     partner_counts::count(run, question, &own);
     Ok(())
 }
 
+/// Whether an entry can hold the seller and the quantity.
+fn is_written(question: &Question) -> bool {
+    question.seller < 16 && (1..=MOST).contains(&question.quantity)
+}
+
+/// A date that no entry holds is cut off here, and its ledger refuses every posting.
+fn cut_off(ledger: &Ledger) -> Day {
+    (ledger.year as u16, ledger.month as u8, ledger.day as u8)
+}
+
+fn times_listed(list: &nedrulov::PartnerList, other: usize) -> usize {
+    let listed = &list.accounts[..list.count as usize];
+    let times = listed.iter().filter(|&&account| account == other as u64);
+    times.count()
+}
+
 /// An account is listed, once, just where the library accepts a TRANSFER of the ledger's date to it, as far as an entry
-/// can hold the two numbers. That of the seller to itself gets 7. A date that no entry holds is cut off here, and its
-/// ledger refuses every TRANSFER.
+/// can hold the two numbers and it is not retired. That of the seller to itself gets 7.
 fn as_transfers(question: &Question, list: &nedrulov::PartnerList) -> Same {
-    let (seller, quantity) = (question.seller, question.quantity);
-    if seller > 15 || !(1..=MOST).contains(&quantity) {
+    let Ledger {
+        is_new,
+        year,
+        month,
+        ..
+    } = question.ledger;
+    if !is_written(question) || letters::is_retired(is_new, year, month) {
         return Ok(());
     }
     let ledger = convert::to_library(&question.ledger);
-    let date = ledger.date;
-    let day = (date.year as u16, date.month as u8, date.day as u8);
-    let listed = &list.accounts[..list.count as usize];
+    let day = cut_off(&question.ledger);
     for other in 0..16 {
-        let bytes = entries::transfer(seller as u8, other, day, quantity as u32);
+        let (seller, quantity) = (question.seller as u8, question.quantity as u32);
+        let bytes = entries::transfer(seller, other as u8, day, quantity);
         let number = nedrulov::post_by_value(ledger, &bytes).answer.number;
-        let times = listed.iter().filter(|&&account| account == other.into());
-        let times = times.count();
+        let times = times_listed(list, other);
         if times != usize::from(number == 0) {
             return Err(format!(
                 "account {other} is listed {times} times, and a TRANSFER to it gets {number}"
@@ -84,6 +105,75 @@ fn as_transfers(question: &Question, list: &nedrulov::PartnerList) -> Same {
         }
     }
     Ok(())
+}
+
+/// In a new ledger an account of which no letter stands is listed, once, just where the library accepts the letters of
+/// both, one after the other, if the seller has none either. Which is written first goes by the quantity.
+fn as_letters(run: &mut Run, question: &Question, list: &nedrulov::PartnerList) -> Same {
+    if !is_written(question) || !question.ledger.is_new {
+        return Ok(());
+    }
+    let seller = question.seller as usize;
+    let stands = |place: usize| question.ledger.accounts[place].notice.stands;
+    run.reached.event(
+        "not asked, as a letter stands of",
+        "the seller",
+        stands(seller),
+    );
+    if stands(seller) {
+        return Ok(());
+    }
+    let ledger = convert::to_library(&question.ledger);
+    for other in 0..16 {
+        run.reached.event(
+            "not asked, as a letter stands of",
+            "the other",
+            stands(other),
+        );
+        if stands(other) {
+            continue;
+        }
+        let accepted = accepts_pair(run, question, ledger, other);
+        let times = times_listed(list, other);
+        if times != usize::from(accepted) {
+            return Err(format!(
+                "account {other} is listed {times} times, and its pair of letters accepted: {accepted}"
+            ));
+        }
+    }
+    Ok(())
+}
+
+/// Whether the library accepts both letters.
+fn accepts_pair(
+    run: &mut Run,
+    question: &Question,
+    mut ledger: nedrulov::Ledger,
+    other: usize,
+) -> bool {
+    let Ledger { year, month, .. } = question.ledger;
+    let (seller, quantity) = (question.seller as usize, question.quantity);
+    let day = cut_off(&question.ledger);
+    let gives = letters::written(seller, &letters::letter(GIVES, other, quantity), day);
+    let takes = letters::written(other, &letters::letter(TAKES, seller, quantity), day);
+    let (order, pair) = if quantity.is_multiple_of(2) {
+        ("giver's first", [gives, takes])
+    } else {
+        ("taker's first", [takes, gives])
+    };
+    let mut accepts = |bytes: &[u8]| nedrulov::post(&mut ledger, bytes).number == 0;
+    let accepted = accepts(&pair[0]) && accepts(&pair[1]);
+    let retired = letters::is_retired(true, year, month);
+    let day = if retired {
+        "without TRANSFER"
+    } else {
+        "with TRANSFER"
+    };
+    run.reached
+        .event("listed, and the letters move it", order, accepted);
+    run.reached
+        .event("listed, and the letters move it", day, accepted);
+    accepted
 }
 
 /// Which of the other accounts have room for the quantity.
@@ -111,6 +201,9 @@ fn placed(random: &mut Random) -> Question {
             account.bank = taker_bank(random, account, date, quantity, room);
             account.opened = !random.one_in(closed);
         }
+    }
+    if random.one_in(6) {
+        letters::put(random, &mut ledger);
     }
     Question {
         ledger,
@@ -181,9 +274,9 @@ fn spoilt(random: &mut Random, sound: Question) -> Question {
     question
 }
 
-/// A number of some account, of the terms, of the date or of a date held, just past its range or far.
+/// A number of some account, of a letter, of the terms, of the date or of a date held, just past its range or far.
 fn out_of_range(random: &mut Random, ledger: &mut Ledger) {
-    match random.below(9) {
+    match random.below(10) {
         0 => ledger.terms.retainage = random.pick(&[10_000, u64::MAX]),
         1 => ledger.month = random.pick(&[0, 13, 256 + ledger.month, u64::MAX]),
         2 => ledger.day = random.pick(&[0, 32, u64::MAX]),
@@ -192,6 +285,7 @@ fn out_of_range(random: &mut Random, ledger: &mut Ledger) {
             let date = any_date(random);
             holidays::spoil(random, &mut ledger.holidays, date);
         }
+        5 => letters::spoil(random, ledger),
         _ => {
             let at = random.below(16) as usize;
             let any = random.below(RANGES.len() as u64) as usize;
@@ -248,6 +342,7 @@ fn gas_year(random: &mut Random, run: &mut Run) -> Same {
         wild: random.one_in(2),
         refusals: false,
         holidays: random.one_in(2),
+        letters: random.one_in(2),
     };
     let mut ledger = Ledger::fresh(plan.is_new);
     for planned in make(random, plan) {
@@ -277,6 +372,7 @@ fn on_the_way(random: &mut Random, ledger: &Ledger, suppliers: u64) -> Question 
 #[cfg(test)]
 mod tests {
     use super::*;
+    use referee::Notice;
     use std::collections::BTreeSet;
 
     #[test]
@@ -284,7 +380,7 @@ mod tests {
         let mut random = Random::new(1);
         let mut counts = BTreeSet::new();
         let mut months = BTreeSet::new();
-        for _ in 0..4_000 {
+        for _ in 0..8_000 {
             let question = placed(&mut random);
             let list = question.referee();
             assert_eq!(list.number, 0);
@@ -324,12 +420,16 @@ mod tests {
 
     #[test]
     fn a_wrong_member_is_told_by_postings() {
-        let mut random = Random::new(4);
-        let mut told = 0;
-        for _ in 0..200 {
-            let question = placed(&mut random);
+        let (mut random, mut run) = (Random::new(4), Run::default());
+        let mut told = [0; 2];
+        for _ in 0..400 {
+            let mut question = placed(&mut random);
+            for account in &mut question.ledger.accounts {
+                account.notice = Notice::default();
+            }
             let list = question.library();
             assert_eq!(as_transfers(&question, &list), Ok(()));
+            assert_eq!(as_letters(&mut run, &question, &list), Ok(()));
             if list.count == 0 {
                 continue;
             }
@@ -339,10 +439,16 @@ mod tests {
             twice.count += 1;
             twice.accounts[list.count as usize] = list.accounts[0];
             for wrong in [other, fewer, twice] {
-                assert!(as_transfers(&question, &wrong).is_err());
+                let by = [
+                    as_transfers(&question, &wrong),
+                    as_letters(&mut run, &question, &wrong),
+                ];
+                assert!(by.iter().any(Result::is_err));
+                for (told, by) in told.iter_mut().zip(by) {
+                    *told += usize::from(by.is_err());
+                }
             }
-            told += 1;
         }
-        assert!(told > 50);
+        assert!(told.iter().all(|&told| told > 150), "{told:?}");
     }
 }

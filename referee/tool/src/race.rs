@@ -68,6 +68,7 @@ fn track(suppliers: u8, years: usize) -> Track {
         wild: false,
         refusals: false,
         holidays: false,
+        letters: false,
     };
     let planned = make(&mut Random::new(1), plan);
     let list: Vec<u8> = planned.iter().flat_map(|planned| planned.bytes).collect();

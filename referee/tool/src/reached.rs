@@ -8,10 +8,11 @@ use crate::confiscation;
 use crate::events::{age, Events};
 use crate::holiday_counts;
 use crate::holidays::plain_day;
+use crate::letter_counts;
 use referee::{Account, Answer, Ledger};
 use std::collections::BTreeSet;
 
-const NUMBERS: usize = 36;
+const NUMBERS: usize = 37;
 /// How often each number was answered.
 type Counts = [u64; NUMBERS];
 /// Of old and of new ledgers or archives.
@@ -36,7 +37,7 @@ const FUNCTIONS: [(&str, &[usize]); 8] = [
     (
         "post",
         &[
-            0, 1, 2, 3, 4, 5, 6, 7, 20, 21, 22, 23, 24, 25, 26, 27, 28, 29, 33, 34, 35,
+            0, 1, 2, 3, 4, 5, 6, 7, 20, 21, 22, 23, 24, 25, 26, 27, 28, 29, 33, 34, 35, 36,
         ],
     ),
     ("panel", &[0, 20]),
@@ -51,15 +52,15 @@ const FUNCTIONS: [(&str, &[usize]); 8] = [
 const MEASURE: usize = 6;
 const MONTHS: usize = 1_200;
 
-/// The first number that an old ledger never answers: from it on they are of HOLIDAY.
+/// The first number that an old ledger never answers: from it on they are of HOLIDAY, and of TRANSFER where it is retired.
 const NEW_ONLY: usize = 33;
 
-/// Kinds, with the numbers of the state that each can get; of the last two, with those of the entry too.
-const KINDS: [(&str, &[usize]); 11] = [
+/// Kinds, with the numbers of the state that each can get; of the last three, with those of the entry too.
+const KINDS: [(&str, &[usize]); 12] = [
     ("TERMS", &[0, 20, 22, 23]),
     ("ENROL", &[0, 20, 21, 22, 23, 24, 25, 28]),
     ("DELIVER", &[0, 20, 21, 22, 24, 26, 29]),
-    ("TRANSFER", &[0, 20, 21, 22, 24, 28]),
+    ("TRANSFER", &[0, 20, 21, 22, 24, 28, 36]),
     ("TRADE", &[0, 20, 21, 22, 24, 28, 29]),
     ("MEASURE", &[0, 20, 21, 22, 23, 24, 26]),
     ("USAGE", &[0, 20, 21, 22, 24, 26]),
@@ -67,9 +68,10 @@ const KINDS: [(&str, &[usize]); 11] = [
     ("CLOSE MONTH", &[0, 20, 21, 22, 23, 27, 29]),
     ("CONFISCATED", &[0, 3, 4, 5, 6, 20, 21, 22, 23, 24, 26]),
     ("HOLIDAY", &[0, 3, 5, 20, 21, 22, 33, 34, 35]),
+    ("NOTICE", &[0, 3, 4, 5, 6, 7, 20, 21, 22, 24, 26, 28]),
 ];
 
-/// All that the last two kinds get in an old ledger.
+/// All that the last three kinds get in an old ledger.
 const UNKNOWN: &[usize] = &[2];
 
 const VIOLATIONS: [&str; 8] = ["V1", "V2", "V3", "V4", "V5", "V6", "V7", "V8"];
@@ -110,6 +112,8 @@ impl Reached {
         if number == 20 {
             let name = "20 of the panel by the list alone";
             holiday_counts::other_20(&mut self.events, name, ledger);
+            let name = "20 of the panel by a letter alone";
+            letter_counts::other_20(&mut self.events, name, ledger);
         }
     }
 
@@ -117,6 +121,8 @@ impl Reached {
     pub fn partners_20(&mut self, ledger: &Ledger) {
         let name = "20 of a partner list by the list alone";
         holiday_counts::other_20(&mut self.events, name, ledger);
+        let name = "20 of a partner list by a letter alone";
+        letter_counts::other_20(&mut self.events, name, ledger);
     }
 
     /// A posting, by its bytes, the ledger before and after, and its answer.
@@ -133,6 +139,7 @@ impl Reached {
         }
         confiscation::count(&mut self.events, bytes, before, answer, after);
         holiday_counts::count(&mut self.events, bytes, before, answer.number, after);
+        letter_counts::count(&mut self.events, bytes, before, answer.number, after);
         let last_day = (before.year, before.month, before.day) == (2099, 12, 31);
         let refused_last = last_day && kind == 9 && number == 23;
         let column = age(before.is_new);
@@ -188,8 +195,8 @@ impl Reached {
         println!("\npostings by kind (0 is accepted)");
         for ((name, numbers), [old, new]) in KINDS.iter().zip(&self.kinds) {
             let known = match *name {
-                "CONFISCATED" | "HOLIDAY" => UNKNOWN,
-                _ => numbers,
+                "CONFISCATED" | "HOLIDAY" | "NOTICE" => UNKNOWN,
+                _ => &numbers[..numbers.partition_point(|&number| number < NEW_ONLY)],
             };
             zeros += print_row(name, "old", known, old) + print_row("", "new", numbers, new);
         }

@@ -17,6 +17,7 @@ pub fn case(random: &mut Random, run: &mut Run) -> Same {
         wild: !random.one_in(5),
         refusals: random.one_in(2),
         holidays: random.one_in(2),
+        letters: random.one_in(2),
     };
     let list = make(random, plan);
     let mut both = Both::fresh(plan.is_new);
@@ -39,6 +40,7 @@ fn archived(random: &mut Random, run: &mut Run, list: &[Planned]) -> Same {
     for (name, kind) in [
         ("CONFISCATED accepted in a year's archive", 10),
         ("HOLIDAY accepted in a year's archive", 11),
+        ("NOTICE accepted in a year's archive", 12),
     ] {
         let mut accepted = list.iter().filter(|planned| planned.valid);
         let posted = accepted.any(|planned| planned.bytes[0] == kind);
