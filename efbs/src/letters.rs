@@ -2,6 +2,7 @@
 
 use crate::entry::{Day, Kind};
 use crate::replay::Step;
+use crate::shown::whole;
 
 /// A notice as it was accepted.
 #[derive(Clone, Copy, Debug, PartialEq, Eq)]
@@ -174,6 +175,11 @@ impl Counts {
 
     pub fn all(&self) -> usize {
         self.answered + self.cleared + self.standing
+    }
+
+    /// All, and then by what became of them, for readers.
+    pub fn shown(&self) -> [String; 4] {
+        [self.all(), self.answered, self.cleared, self.standing].map(|number| whole(number as u64))
     }
 }
 

@@ -6,7 +6,7 @@ use crate::json::{array, number_or_null, object, string};
 use crate::letters::{unanswered, Counts, Fate, Fates, Letter};
 use crate::movements::Movements;
 use crate::replay::replay;
-use crate::shown::{gas, whole};
+use crate::shown::gas;
 use std::io::{self, Write};
 
 const NAMES: [&str; 6] = ["entry", "date", "account", "other", "side", "gas, Dth"];
@@ -79,13 +79,7 @@ fn counted(counts: &Counts) -> String {
         1 => "letter",
         _ => "letters",
     };
-    let Counts {
-        answered,
-        cleared,
-        standing,
-    } = *counts;
-    let [all, answered, cleared, standing] =
-        [counts.all(), answered, cleared, standing].map(|number| whole(number as u64));
+    let [all, answered, cleared, standing] = counts.shown();
     format!("{all} {letters} came to stand: {answered} answered, {cleared} cleared unanswered, {standing} standing")
 }
 

@@ -20,13 +20,7 @@ pub fn letters(list: &[(Letter, Fate)], year: u16) -> String {
 }
 
 fn counted(counts: &Counts) -> String {
-    let Counts {
-        answered,
-        cleared,
-        standing,
-    } = *counts;
-    let [all, answered, cleared, standing] =
-        [counts.all(), answered, cleared, standing].map(|number| whole(number as u64));
+    let [all, answered, cleared, standing] = counts.shown();
     format!(
         "A notice stands until the other party’s is accepted or its day closes. Letters of this gas year that stood: {all}; \
          answered: {answered}; cleared by a closing without an answer: {cleared}; standing as the archive ends: {standing}."

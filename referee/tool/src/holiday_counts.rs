@@ -2,6 +2,7 @@
 
 use crate::events::{age, Events};
 use crate::holidays::{is_last, list_of, named, plain_day, KIND, MOST};
+use crate::reached::kind_name;
 use crate::run::Run;
 use referee::{Account, Date, Holidays, Ledger, Month, Named};
 
@@ -197,22 +198,6 @@ fn is_littered(list: &Holidays) -> bool {
     rest.iter().any(|&place| place != Named::default())
 }
 
-/// Kinds that leave the list as it is, all but CLOSE MONTH and HOLIDAY.
-const OTHERS: [&str; 12] = [
-    "TERMS",
-    "ENROL",
-    "DELIVER",
-    "TRANSFER",
-    "TRADE",
-    "MEASURE",
-    "USAGE",
-    "CLOSE DAY",
-    "CLOSE MONTH",
-    "CONFISCATED",
-    "HOLIDAY",
-    "NOTICE",
-];
-
 /// What another accepted kind leaves of the list.
 fn list_after(events: &mut Events, kind: u8, before: &Ledger, after: &Ledger) {
     let (list, column) = (&before.holidays, age(before.is_new));
@@ -221,8 +206,7 @@ fn list_after(events: &mut Events, kind: u8, before: &Ledger, after: &Ledger) {
         return;
     }
     let littered = is_littered(list);
-    let name = OTHERS[usize::from(kind) - 1];
-    events.count("litter past the count left by", name, littered);
+    events.count("litter past the count left by", kind_name(kind), littered);
     let past = list.held().iter().any(|named| named.date() < after.date());
     events.count("past date left by CLOSE DAY", column, kind == 8 && past);
 }

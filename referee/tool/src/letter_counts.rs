@@ -2,6 +2,7 @@
 
 use crate::events::{age, Events};
 use crate::letters::{self, is_retired, meets, GIVES, KIND, MOST, TAKES};
+use crate::reached::kind_name;
 use referee::{Ledger, Notice};
 
 const OTHER: &str = "other party";
@@ -315,28 +316,11 @@ fn cleared(events: &mut Events, kind: u8, before: &Ledger, after: &Ledger) {
     }
 }
 
-/// Accepted kinds that leave the letters of others, all but the closings.
-const KINDS: [&str; 12] = [
-    "TERMS",
-    "ENROL",
-    "DELIVER",
-    "TRANSFER",
-    "TRADE",
-    "MEASURE",
-    "USAGE",
-    "CLOSE DAY",
-    "CLOSE MONTH",
-    "CONFISCATED",
-    "HOLIDAY",
-    "NOTICE",
-];
-
 /// Letters of open accounts that are there as they were.
 fn left(events: &mut Events, bytes: &[u8], before: &Ledger, after: &Ledger) {
     let mut pairs = before.accounts.iter().zip(&after.accounts);
     let stays = pairs.any(|(old, new)| old.opened && old.notice.stands && old.notice == new.notice);
-    let name = KINDS[usize::from(bytes[0]) - 1];
-    events.count("letter left by", name, stays);
+    events.count("letter left by", kind_name(bytes[0]), stays);
 }
 
 #[cfg(test)]

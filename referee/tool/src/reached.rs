@@ -71,6 +71,11 @@ const KINDS: [(&str, &[usize]); 12] = [
     ("NOTICE", &[0, 3, 4, 5, 6, 7, 20, 21, 22, 24, 26, 28]),
 ];
 
+/// Of an accepted entry, by its first byte.
+pub fn kind_name(kind: u8) -> &'static str {
+    KINDS[usize::from(kind) - 1].0
+}
+
 /// All that the last three kinds get in an old ledger.
 const UNKNOWN: &[usize] = &[2];
 
