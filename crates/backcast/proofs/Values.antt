@@ -1,6 +1,6 @@
 -- Two doubles that are numbers compare as their exact values do, each numerator taken times the other's denominator.
 use Prim.Native.Nat.{ℕ, ◌*◌, ◌<◌}
-use mathlib.Core.Bool.{Bool, true, true≢false}
+use mathlib.Core.Bool.{Bool, true, false, true≢false, ◌&&◌}
 use mathlib.Core.Path.{◌≡◌, refl, sym, ap, ◌∙◌}
 use lib.IntN.{ℤ, pos, ◌*ℤ◌}
 use lib.Signed.{le_z, lt_z}
@@ -8,17 +8,17 @@ use lib.Ieee as Ieee
 use lib.Ieee.{Float, nan, inf, fin, down, up}
 use lib.Ieee.Fits.{down_pos}
 use lib.Pow.{pow_pos}
-use Rattle.std.specs.Float.{float_is_finite}
 use Rattle.backcast.specs.Doubles.{is_number, numerator, denominator}
 use Rattle.backcast.proofs.Integers.{signed, signed_times}
 use Rattle.backcast.proofs.Orders.{below_is, level_is}
 
--- std's finite doubles are the numbers
-pub finite : (x : Float) → float_is_finite x ≡ is_number x
-unfolding float_is_finite is_number
-finite nan = refl
-finite (inf s) = refl
-finite (fin s m e) = refl
+-- below one infinity and above the other lie the numbers and nothing else: each sort of double is tried
+pub between : (x : Float) → Ieee.lt (inf true) x && Ieee.lt x (inf false) ≡ is_number x
+unfolding Ieee.lt is_number
+between nan = refl
+between (inf true) = refl
+between (inf false) = refl
+between (fin s m e) = refl
 
 pub denominator_pos : (x : Float) → 0 < denominator x
 unfolding denominator
