@@ -8,7 +8,7 @@ use lib.Signed.{le_z}
 use borrow.Author.Tests.{eq-eqb, eqb-true}
 use lib.IntN.{ℤ, pos, ◌+ℤ◌, ◌-ℤ◌, neg_ℤ}
 use Rattle.std.proofs.lemmas.Int.{ints}
-use Rattle.tariff.specs.Amounts.{nothing, amount_of, sum, more, less, opposite, positive_part, inward, outward, within, size, together, added, within_mills, size_mills}
+use Rattle.tariff.specs.Amounts.{nothing, amount_of, sum, more, less, opposite, positive_part, inward, outward, within, size, together, no_money, added, within_mills, size_mills}
 use Rattle.tariff.specs.Dates.{same_date}
 use Rattle.tariff.specs.Months.{same_month}
 use Rattle.tariff.specs.Structs.{Date, Mills, Quantity, Step, Units}
@@ -22,6 +22,11 @@ use Rattle.tariff.proofs.Signed.{size_between}
 pub nothing_value : nothing.0 ≡ pos 0
 unfolding nothing
 nothing_value = refl
+
+-- what `Mills::default()` gives
+pub no_money_value : no_money.0 ≡ pos 0
+unfolding no_money
+no_money_value = refl
 
 pub amount_value : (q : Quantity) → (amount_of q).0 ≡ pos q.0
 unfolding amount_of
