@@ -50,7 +50,7 @@ impl Case {
         print!(rt; "{}", self.name)?;
         if let Some(terms) = InRange::checked(self.terms()) {
             if let Some(prices) = InRange::checked(self.prices) {
-                print!(rt; " {}", self.moved.totals.bill(terms, prices, Dth(1500)))?;
+                return println!(rt; " {}", self.moved.totals.bill(terms, prices, Dth(1500)));
             }
         }
         println!(rt)
@@ -68,10 +68,6 @@ fn prices(inventory: u64, highest: u64, lowest: u64, pipeline: u64) -> Prices {
 
 // The sheets of 2010, 2017, 2021 and 2024, for 10,000 Mcf and no gas traded.
 fn sheets(rt: &impl Print) -> io::Result<()> {
-    let totals = Totals {
-        usage: Mcf(10000),
-        ..Totals::default()
-    };
     let rates = [
         ("2010", 6130, 18),
         ("2017", 7160, 18),
@@ -84,7 +80,7 @@ fn sheets(rt: &impl Print) -> io::Result<()> {
             demand_rate,
             commodity_rate,
             prices: prices(0, 0, 0, 0),
-            moved: Moved { totals },
+            moved: Moved::of(0, 0, 0, 0),
         };
         sheet.show(rt)?;
     }
@@ -103,9 +99,13 @@ fn free(name: &'static str, moved: Moved) -> Case {
 }
 
 impl Moved {
+    // With 10,000 Mcf used.
     fn of(sales: u64, purchases: u64, cash_ins: u64, cash_outs: u64) -> Moved
         requires cash_fits { (cash_ins ≤ 100000000000) × (cash_outs ≤ 100000000000) }
         requires trades_fit { (sales ≤ 100000000000) × (purchases ≤ 100000000000) }
+        ensures traded { (result.totals.sales.0 ≡ sales) × (result.totals.purchases.0 ≡ purchases) }
+        ensures cashed { (result.totals.cash_ins.0 ≡ cash_ins) × (result.totals.cash_outs.0 ≡ cash_outs) }
+        ensures used { result.totals.usage.0 ≡ 10000 }
     {
         let totals = Totals {
             sales: Quantity(sales),
@@ -150,18 +150,17 @@ fn trades(rt: &impl Print) -> io::Result<()> {
 fn months(rt: &impl Print) -> io::Result<()> {
     for n in [4, 5, 6, 7, 8, 9, 10, 11, 12, 1, 2, 3] {
         let m = Month(n);
-        print!(rt; "month {n}")?;
-        let table = [
-            m.least_bank(),
-            m.largest_bank(),
-            m.most_added(),
-            m.most_withdrawn(),
-            m.least_withdrawn(),
-        ];
-        for percent in table {
-            print!(rt; " {}", percent.hundredths)?;
-        }
-        println!(rt)?;
+        print!(rt;
+            "month {n} {} {}",
+            m.least_bank().hundredths,
+            m.largest_bank().hundredths
+        )?;
+        println!(rt;
+            " {} {} {}",
+            m.most_added().hundredths,
+            m.most_withdrawn().hundredths,
+            m.least_withdrawn().hundredths
+        )?;
     }
     Ok(())
 }
