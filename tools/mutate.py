@@ -6,7 +6,8 @@
 FOLDER is a scratch folder for the copy, outside the repository; it is made if it is missing and may be deleted
 afterwards. Run it from the repository's root after `rt all check`: checks in the copy begin with what those kept. For each
 of the crates (tariff, ledger and archive if none is named) N changes are drawn: a constant up or down by one, a comparison
-at its edge or turned, an operand exchanged, a bool turned. Contracts, types and comments are left alone: only code changes.
+at its edge or turned, an operand exchanged, a bool turned, a range with or without its end, the other side. Contracts, types
+and comments are left alone: only code changes.
 
 Every change must be refused. The report tells refusals for a fact from those in which a proof file names a goal that the
 changed code no longer has, since goals are named after the code; a change that is not refused is printed as SURVIVED, one
@@ -22,17 +23,22 @@ import subprocess
 import sys
 
 CRATES = ("tariff", "ledger", "archive")
+PAIRS = (("Gives", "Takes"), ("above", "below"), ("above_maximum", "below_minimum"), ("minimum", "maximum"), ("inward", "outward"))
+SIDES = dict(PAIRS) | {other: one for one, other in PAIRS}
 # What a change may be: a pattern, and what takes the place of the match.
 CHANGES = (
-    ("constant", re.compile(r"(?<![\w.\[#])(\d+)(?![\w\].])"), lambda m: (str(int(m[0]) + 1), str(max(int(m[0]) - 1, 0)))),
+    ("constant", re.compile(r"(?:(?<![\w.\[#])|(?<=\.\.))(\d+)(?![\w\]]|\.(?!\.))"), lambda m: (str(int(m[0]) + 1), str(max(int(m[0]) - 1, 0)))),
     ("comparison", re.compile(r" (<=|<|>=|>|==|!=) "), lambda m: {
         "<=": (" < ",), "<": (" <= ",), ">=": (" > ",), ">": (" >= ",), "==": (" != ",), "!=": (" == ",)}[m[1]]),
     ("operand", re.compile(r"(?<![\w.])([a-z_]\w*)( [-+*/%] )([a-z_]\w*|\d+)(?![\w.(])"), lambda m: (m[1] + m[2] + m[1], m[3] + m[2] + m[3])),
-    ("bool", re.compile(r" ([&|]) "), lambda m: (" | " if m[1] == "&" else " & ",)),
+    ("bool", re.compile(r" (&&?|\|\|?) (?!\w+::)"), lambda m: (" " + m[1].translate(str.maketrans("&|", "|&")) + " ",)),
+    ("range", re.compile(r"(?<=[\w)])\.\.(=?)(?=[\w(])"), lambda m: (".." if m[1] else "..=",)),
+    ("side", re.compile(r"(?<=::)(?:Gives|Takes)\b|(?<=\.)(?:above|below|above_maximum|below_minimum|minimum|maximum|inward|outward)(?=\()"),
+     lambda m: (SIDES[m[0]],)),
     ("negation", re.compile(r"(?<=[ (])!(?=[\w(])"), lambda m: ("",)),
     ("value", re.compile(r"\b(true|false)\b"), lambda m: ("false" if m[1] == "true" else "true",)),
 )
-PASSED_OVER = re.compile(r"^\s*(//|ghost |use |pub use |mod |pub mod |requires|ensures|pub struct|struct|#!?\[|pub \w+:|\w+: \w)")
+PASSED_OVER = re.compile(r"^\s*(//|ghost |use |pub use |mod |pub mod |requires|ensures|pub struct|struct|#!?\[|pub \w+:|\w+: \w)|[≡≢≤×λ→]")
 # A proof file that names what the change took away.
 MISFIT = re.compile(r"(\./)?proofs/.*(has no field|is not in scope|has no `|was not admitted)")
 
@@ -47,7 +53,7 @@ def code_lines(source):
         if end is not None:
             end = None if re.match(end, line) else end
             continue
-        if line.strip() and not PASSED_OVER.match(line) and " fn " not in f" {line}" and "->" not in line:
+        if line.strip() and not PASSED_OVER.search(line) and " fn " not in f" {line}" and "->" not in line:
             yield number, line
 
 
