@@ -296,7 +296,7 @@ typedef struct {
  * may be handed in. 31 if one is infinite or not a number; then 32 if the load is below 0, above 1,000,000,000 or, by an
  * overflow on the way, no number.
  * The processor must round to nearest and keep subnormal numbers, as every C program starts out; fesetround, or a program
- * linked with -ffast-math, changes that.
+ * linked with -ffast-math, changes that. A 31 raises no invalid exception, but where a signalling not-a-number is handed in.
  */
 nedrulov_back_cast_answer nedrulov_back_cast(nedrulov_load_curve curve, double temperature);
 
